@@ -1,0 +1,1 @@
+// The rational numbers: definitions and laws in specs/. No code.

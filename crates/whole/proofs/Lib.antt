@@ -1,0 +1,4 @@
+pub mod Stored
+pub mod Divide
+pub mod Magnitude
+pub mod Marked

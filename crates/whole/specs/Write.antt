@@ -1,0 +1,81 @@
+-- A run of places of a list written anew: what a loop that fills a slice does, for any type of element.
+use mathlib.Core.List.{List, [], _∷_, _++_}
+use mathlib.Core.Path.{_≡_, refl, sym, ap, ap₂, _∙_}
+use Prim.Native.Nat.{ℕ, zero, suc, _+_, _-_, _<_, _≤_}
+use native.Mathlib.Decide.{decLt}
+use native.Mathlib.Nat.{zero-add, suc-add}
+use native.Mathlib.Numerals.{add-one}
+use native.Mathlib.Omega.{arith}
+use lib.ListN.{length, getD, set, take, drop, length-set, length-drop, take-append-drop}
+use lib.Seq.{set-append-left, length-take-le, getD-set-same, getD-set-other}
+
+-- places at, at + 1 .. hold f 0, f 1 .. f (n - 1), and the others what they held
+unfoldable pub write : {X : Type 0} → List X → ℕ → (ℕ → X) → ℕ → List X
+write ws at f zero = ws
+write ws at f (suc k) = set (write ws at f k) (at + k) (f k)
+
+module _ {X : Type 0} (ws : List X) (at : ℕ) where
+  pub write-none : (f : ℕ → X) → write ws at f 0 ≡ ws
+  unfolding write
+  write-none f = refl
+
+  pub write-length : (f : ℕ → X) (n : ℕ) → length (write ws at f n) ≡ length ws
+  unfolding write
+  write-length f zero = refl
+  write-length f (suc k) = length-set (write ws at f k) (at + k) (f k) ∙ write-length f k
+
+  -- a loop's step: the next place is written
+  pub write-again : (f : ℕ → X) (w : List X) (k : ℕ) (v : X) → w ≡ write ws at f k → v ≡ f k → set w (at + k) v ≡ write ws at f (k + 1)
+  unfolding write
+  write-again f w k v p q = ap₂ (λ (l : List X) (x : X). set l (at + k) x) p q ∙ rw add-one
+
+  pub write-cong : (f g : ℕ → X) (n : ℕ) → ((k : ℕ) → k < n → f k ≡ g k) → write ws at f n ≡ write ws at g n
+  unfolding write
+  write-cong f g zero h = refl
+  write-cong f g (suc n) h =
+      ap₂ (λ (l : List X) (x : X). set l (at + n) x) (write-cong f g n (λ k l. h k (omega arith))) (h n (omega arith))
+
+  -- what a place holds afterwards: in the run, and outside it
+  pub write-at : (f : ℕ → X) (d : X) (n k : ℕ) → k < n → at + n ≤ length ws → getD (write ws at f n) (at + k) d ≡ f k
+  unfolding write
+  write-at f d zero k h l = absurd (omega arith)
+  write-at f d (suc n) k h l = go (λ p. write-at f d n k p (omega arith)) (decLt k n)
+    where
+      go : (k < n → getD (write ws at f n) (at + k) d ≡ f k) → Dec (k < n) → getD (set (write ws at f n) (at + n) (f n)) (at + k) d ≡ f k
+      go ih (yes p) = getD-set-other (write ws at f n) (at + n) (at + k) (f n) d (λ q. omega arith) ∙ ih p
+      go ih (no p) =
+          let q : k ≡ n = omega arith in
+          rw q (getD-set-same (write ws at f n) (at + n) (f n) d (rw (write-length f n) (omega arith)))
+
+  pub write-before : (f : ℕ → X) (d : X) (n k : ℕ) → k < at → getD (write ws at f n) k d ≡ getD ws k d
+  unfolding write
+  write-before f d zero k h = refl
+  write-before f d (suc n) k h = getD-set-other (write ws at f n) (at + n) k (f n) d (λ q. omega arith) ∙ write-before f d n k h
+
+  pub write-after : (f : ℕ → X) (d : X) (n k : ℕ) → at + n ≤ k → getD (write ws at f n) k d ≡ getD ws k d
+  unfolding write
+  write-after f d zero k h = refl
+  write-after f d (suc n) k h = getD-set-other (write ws at f n) (at + n) k (f n) d (λ q. omega arith) ∙ write-after f d n k (omega arith)
+
+-- ---- a part of a list that was lent: what is written in the part that starts at a is written in the list
+set-append-right : {X : Type 0} (xs ys : List X) (i : ℕ) (a : X) → set (xs ++ ys) (length xs + i) a ≡ xs ++ set ys i a
+set-append-right [] ys i a = rw zero-add
+set-append-right (x ∷ xs) ys i a = rw (suc-add (length xs) i) (ap (λ (l : List _). x ∷ l) (set-append-right xs ys i a))
+
+module _ {X : Type 0} (xs : List X) (a k : ℕ) (f : ℕ → X) (fits : a + k ≤ length xs) where
+  pub write-part : (n : ℕ) → n ≤ k → take a xs ++ (write (take k (drop a xs)) 0 f n ++ drop k (drop a xs)) ≡ write xs a f n
+  unfolding write
+  write-part zero h = rw (take-append-drop k (drop a xs), take-append-drop a xs)
+  write-part (suc m) h =
+      let W = write (take k (drop a xs)) 0 f m in
+      let D = drop k (drop a xs) in
+      let la : length (take a xs) ≡ a = length-take-le a xs (omega arith) in
+      let ld : length (drop a xs) ≡ length xs - a = length-drop a xs in
+      let lk : length (take k (drop a xs)) ≡ k = length-take-le k (drop a xs) (omega arith) in
+      let lw : length W ≡ k = write-length (take k (drop a xs)) 0 f m ∙ lk in
+      let ih : take a xs ++ (W ++ D) ≡ write xs a f m = write-part m (omega arith) in
+      rw (← ih, zero-add m)
+      (sym
+      (ap (λ (i : ℕ). set (take a xs ++ (W ++ D)) (i + m) (f m)) (sym la)
+      ∙ set-append-right (take a xs) (W ++ D) m (f m)
+      ∙ ap (λ (l : List X). take a xs ++ l) (set-append-left W D m (f m) (omega arith))))
