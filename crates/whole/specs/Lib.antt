@@ -8,6 +8,7 @@
 --     sums over lists and over places                      Sum
 --     a slice that a loop fills, a part that was lent      Write
 --     the rule of a constant table                         Table
+--     the list f 0 .. f (n - 1), tests over lists          Tab
 pub mod Difference
 pub mod AsNaturals
 pub mod Ring
@@ -23,3 +24,4 @@ pub mod Half
 pub mod Sum
 pub mod Write
 pub mod Table
+pub mod Tab

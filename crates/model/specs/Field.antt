@@ -1,0 +1,155 @@
+-- The kinds of field: what each asks of its body, in the order of the refusals, and what it gives. A later kind is one more clause of
+-- `meaning`.
+use mathlib.Core.List.{List, [], _∷_}
+use mathlib.Core.Bool.{Bool, true, false, not, _||_}
+use Prim.Native.Nat.{ℕ, _+_, _*_}
+use lib.Dec.{ltb, eqb}
+use lib.ListN.{length}
+use lib.IntN.{ℤ, pos, natAbs}
+use lib.Signed.{ltZ}
+use Rattle.whole.specs.Tab.{any}
+use Rattle.model.specs.Limits.{maxDimension, maxFactors, maxTerms, maxGenerators, maxHalfspaces, maxEntry, maxConstant}
+use Rattle.model.specs.Limits.{maxDisturbance, maxBound, fileIdentifiers, standardWeights}
+use Rattle.model.specs.Set.{Zonotope}
+use Rattle.model.specs.Valid.{badRange, badOrder, tooWide}
+use Rattle.model.specs.Step as Step
+use Rattle.model.specs.Operations.{tiedSum, independentSum, renumbered, union, disturb, reduce, Box, box, safe}
+use Rattle.model.specs.Bytes.{byte}
+use Rattle.model.specs.Body.{dimension, factors, termCount, generatorCount, setLength, radiusWords, givenSet, stepRows, stepColumns}
+use Rattle.model.specs.Body.{stepLength, givenStep, disturbanceWords, givenRadii, termLimit, generatorLimit, halfspaceCount}
+use Rattle.model.specs.Body.{halfspaceAt, givenHalfspaces}
+
+-- tags 1 to 7
+pub data Kind : Type 0 where
+  start step disturbance independent tied reduction check : Kind
+
+-- a box, a verdict (safe or unknown), or a refusal with its number and the position of the field's first byte;
+-- a field after a refusal is skipped
+pub data Outcome : Type 0 where
+  inside : Box → Outcome
+  verdict : Bool → Outcome
+  refused : ℕ → ℕ → Outcome
+  skipped : Outcome
+
+-- what a field means where it is given a set and the next fresh identifier
+pub record Meaning : Type 0 where
+  -- 3: the body is shorter than its counts
+  pub countBytes : ℕ
+  -- 4: a count or limit is out of limits
+  pub wrongCounts : Bool
+  -- 3: the body's length is not this
+  pub bytes : ℕ
+  -- 5: the dimension is not the given set's
+  pub wrongDimension : Bool
+  -- 6: an entry, radius, exponent, identifier or bound is out of range
+  pub outOfRange : Bool
+  -- 7: the body's set breaks an ordering or zero rule
+  pub disordered : Bool
+  -- 8: it is too wide
+  pub wide : Bool
+  -- 9: a sum has too many factors before finishing
+  pub manyFactors : Bool
+  -- 10: the result is too wide
+  pub result : Zonotope
+  -- the next fresh identifier afterwards
+  pub next : ℕ
+  -- what is answered where no cause holds
+  pub outcome : Outcome
+
+-- ---- tests that kinds share
+abbrev pub badDimension : ℕ → Bool
+badDimension n = eqb n 0 || ltb maxDimension n
+
+abbrev pub beyond : ℕ → ℤ → Bool
+beyond most z = ltb most (natAbs z)
+
+abbrev pub negative : ℤ → Bool
+negative z = ltZ z (pos 0)
+
+abbrev pub differs : ℕ → ℕ → Bool
+differs m n = not (eqb m n)
+
+-- a field whose body is a set, by what the kind adds
+abbrev pub ofSet : List ℕ → Bool → Bool → Zonotope → ℕ → Meaning
+ofSet b wrongDimension manyFactors result next = record {
+  countBytes = 4;
+  wrongCounts = badDimension (dimension b) || ltb maxFactors (factors b) || ltb maxTerms (termCount b) || ltb maxGenerators
+      (generatorCount b);
+  bytes = setLength b;
+  wrongDimension = wrongDimension;
+  outOfRange = badRange fileIdentifiers (givenSet b) || any negative (radiusWords b);
+  disordered = badOrder (givenSet b);
+  wide = tooWide (givenSet b);
+  manyFactors = manyFactors;
+  result = result;
+  next = next;
+  outcome = inside (box result);
+}
+
+-- whether s and a summand have too many factors together
+abbrev pub tooMany : Zonotope → Zonotope → Bool
+tooMany s u = ltb maxFactors (length (union (s .identifiers) (u .identifiers)))
+
+-- ---- the kinds
+unfoldable pub meaning : Kind → List ℕ → ℕ → Zonotope → Meaning
+meaning start b next s = ofSet b false false (givenSet b) next
+meaning tied b next s =
+    ofSet b (differs (dimension b) (s .dimension)) (tooMany s (givenSet b)) (tiedSum standardWeights s (givenSet b)) next
+meaning independent b next s =
+    ofSet b (differs (dimension b) (s .dimension)) (tooMany s (renumbered next (givenSet b)))
+    (independentSum standardWeights next s (givenSet b)) (next + factors b)
+meaning step b next s = let result = Step.step standardWeights (givenStep b) s in record {
+  countBytes = 2;
+  wrongCounts = badDimension (stepRows b) || badDimension (stepColumns b);
+  bytes = stepLength b;
+  wrongDimension = differs (stepColumns b) (s .dimension);
+  outOfRange =
+      any (beyond maxConstant) (givenStep b .constant)
+      || any (beyond maxEntry) (givenStep b .linear)
+      || any (beyond maxEntry) (givenStep b .quadratic);
+  disordered = false;
+  wide = false;
+  manyFactors = false;
+  result = result;
+  next = next;
+  outcome = inside (box result);
+}
+meaning disturbance b next s = let result = disturb (givenRadii b) s in record {
+  countBytes = 1;
+  wrongCounts = badDimension (dimension b);
+  bytes = 1 + 4 * dimension b;
+  wrongDimension = differs (dimension b) (s .dimension);
+  outOfRange = any (λ z. negative z || beyond maxDisturbance z) (disturbanceWords b);
+  disordered = false;
+  wide = false;
+  manyFactors = false;
+  result = result;
+  next = next;
+  outcome = inside (box result);
+}
+meaning reduction b next s = let result = reduce standardWeights (termLimit b) (generatorLimit b) s in record {
+  countBytes = 2;
+  wrongCounts = ltb maxTerms (termLimit b) || ltb maxGenerators (generatorLimit b);
+  bytes = 2;
+  wrongDimension = false;
+  outOfRange = false;
+  disordered = false;
+  wide = false;
+  manyFactors = false;
+  result = result;
+  next = next;
+  outcome = inside (box result);
+}
+meaning check b next s = record {
+  countBytes = 2;
+  wrongCounts = badDimension (dimension b) || eqb (halfspaceCount b) 0 || ltb maxHalfspaces (halfspaceCount b);
+  bytes = halfspaceAt b (halfspaceCount b);
+  wrongDimension = differs (dimension b) (s .dimension);
+  outOfRange = any (λ h. any (beyond maxEntry) (h .normal) || beyond maxBound (h .bound)) (givenHalfspaces b);
+  disordered = false;
+  wide = false;
+  manyFactors = false;
+  result = s;
+  next = next;
+  outcome = verdict (safe (givenHalfspaces b) s);
+}

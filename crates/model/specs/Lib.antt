@@ -1,0 +1,25 @@
+-- Document 01 made executable, in its order: what a reader has to believe.
+--     Limits       the numbers that it fixes
+--     Set, Valid   sets, spans, which sets are valid
+--     Finish       what becomes of every result: collect, drop, fold, reduce
+--     Step         the polynomial step: raw numbers, rounding, the new radius
+--     Operations   sums, disturbance, reduction, box, check
+--     Bytes, Body  numbers in a run file, and what the body of a field says
+--     Field        the kinds of field: what each asks and gives
+--     Run          the state, the refusals in their order, one field, a list of fields, a whole input
+--     Pairs        the order of a step's pairs
+--     Points       the points of a set at given factor values
+--     Motion       what a motion is, and what is claimed of every motion (demand 3)
+pub mod Limits
+pub mod Set
+pub mod Valid
+pub mod Finish
+pub mod Step
+pub mod Operations
+pub mod Bytes
+pub mod Body
+pub mod Field
+pub mod Run
+pub mod Pairs
+pub mod Points
+pub mod Motion

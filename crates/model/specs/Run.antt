@@ -1,0 +1,148 @@
+-- A run: its state, one field, a list of fields, and a whole input cut into fields.
+use mathlib.Core.List.{List, [], _∷_}
+use mathlib.Core.Option.{Option, none, some, Option·getD}
+use mathlib.Core.Bool.{Bool, true, false, not, cond, _||_}
+use Prim.Native.Nat.{ℕ, zero, suc, _+_}
+use lib.Dec.{ltb, eqb}
+use lib.ListN.{length, take, drop}
+use Rattle.model.specs.Limits.{firstFresh, lastField}
+use Rattle.model.specs.Set.{Zonotope}
+use Rattle.model.specs.Valid.{tooWide}
+use Rattle.model.specs.Bytes.{byte, number}
+use Rattle.model.specs.Field.{Kind, start, step, disturbance, independent, tied, reduction, check}
+use Rattle.model.specs.Field.{Outcome, refused, skipped, Meaning, meaning}
+
+-- ---- the state: the current set, if any; the next fresh identifier (document 01: the mark); how many fields were accepted; whether one
+-- was refused
+pub record State : Type 0 where
+  pub set : Option Zonotope
+  pub next : ℕ
+  pub count : ℕ
+  pub over : Bool
+
+abbrev pub begin : State
+begin = record { set = none; next = firstFresh; count = 0; over = false }
+
+-- the current set; without one, a set of no coordinates, at which no accepted field looks
+abbrev pub noSet : Zonotope
+noSet = record { dimension = 0; identifiers = []; centre = []; terms = []; generators = []; radii = [] }
+
+abbrev pub current : State → Zonotope
+current st = Option·getD (st .set) noSet
+
+-- ---- a field: tag, length in two bytes, body
+abbrev pub tag : List ℕ → ℕ
+tag f = byte f 0
+
+abbrev pub bodyLength : List ℕ → ℕ
+bodyLength f = number 2 f 1
+
+-- the part of the field that its body fills
+abbrev pub body : List ℕ → List ℕ
+body f = take (bodyLength f) (drop 3 f)
+
+-- the kind of a tag from 1 to 7; another is refused before its kind matters
+unfoldable pub kindOf : ℕ → Kind
+kindOf t =
+    cond (eqb t 1) start (cond (eqb t 2) step (cond (eqb t 3) disturbance (cond (eqb t 4) independent
+    (cond (eqb t 5) tied (cond (eqb t 6) reduction check)))))
+
+-- what the field means in this state
+abbrev pub meant : State → List ℕ → Meaning
+meant st f = meaning (kindOf (tag f)) (body f) (st .next) (current st)
+
+-- ---- refusals
+-- a cause, with its number
+infix 40 _if_
+pub record Cause : Type 0 where
+  pub number : ℕ
+  pub holds : Bool
+
+abbrev pub _if_ : ℕ → Bool → Cause
+n if b = record { number = n; holds = b }
+
+-- the number of the first cause that holds
+unfoldable pub firstOf : List Cause → Option ℕ
+firstOf [] = none
+firstOf (c ∷ cs) = cond (c .holds) (some (c .number)) (firstOf cs)
+
+-- an unknown tag, a first field that is no start set, or a later one that is: known from one byte
+unfoldable pub misplaced : ℕ → List ℕ → Bool
+misplaced count [] = false
+misplaced zero (t ∷ f) = not (eqb t 1)
+misplaced (suc n) (t ∷ f) = ltb t 2 || ltb 7 t
+
+-- the input ends inside the field
+unfoldable pub cut : List ℕ → Bool
+cut f = ltb (length f) 3 || ltb (length f) (3 + bodyLength f)
+
+-- the causes of a refusal, in the order in which they are asked
+unfoldable pub causes : State → List ℕ → List Cause
+causes st f = let m = meant st f in let bytes = length (body f) in
+    (12 if ltb lastField (st .count))
+    ∷ (2 if misplaced (st .count) f)
+    ∷ (1 if cut f)
+    ∷ (3 if ltb bytes (m .countBytes))
+    ∷ (4 if m .wrongCounts)
+    ∷ (3 if not (eqb bytes (m .bytes)))
+    ∷ (5 if m .wrongDimension)
+    ∷ (6 if m .outOfRange)
+    ∷ (7 if m .disordered)
+    ∷ (8 if m .wide)
+    ∷ (9 if m .manyFactors)
+    ∷ (10 if tooWide (m .result))
+    ∷ []
+
+-- the number of the refusal, where there is one
+abbrev pub refusal : State → List ℕ → Option ℕ
+refusal st f = firstOf (causes st f)
+
+-- ---- one field
+-- whether it is accepted: no field was refused before, and no cause holds
+unfoldable pub accepted : State → List ℕ → Bool
+accepted st f = cond (st .over) false (elim (refusal st f) [ none ↦ true | some n ↦ false ])
+
+-- an accepted field leaves its result; a refused one leaves the set and ends the run; after that nothing changes
+unfoldable pub after : State → List ℕ → State
+after st f =
+    cond (st .over) st (elim (refusal st f) [
+      | none ↦ record { set = some (meant st f .result); next = meant st f .next; count = st .count + 1; over = false }
+      | some n ↦ record { set = st .set; next = st .next; count = st .count; over = true }
+    ])
+
+-- what is answered for a field whose first byte is at `place`
+unfoldable pub outcome : ℕ → State → List ℕ → Outcome
+outcome place st f = cond (st .over) skipped (elim (refusal st f) [ none ↦ meant st f .outcome | some n ↦ refused n place ])
+
+-- an answer carries the field's number
+pub record Answer : Type 0 where
+  pub field : ℕ
+  pub outcome : Outcome
+
+abbrev pub answer : ℕ → State → List ℕ → Answer
+answer place st f = record { field = st .count; outcome = outcome place st f }
+
+-- ---- a list of fields, each given the state that the last one left
+unfoldable pub run : List (List ℕ) → State → State
+run [] st = st
+run (f ∷ fs) st = run fs (after st f)
+
+-- their answers
+unfoldable pub answers : ℕ → State → List (List ℕ) → List Answer
+answers place st [] = []
+answers place st (f ∷ fs) = answer place st f ∷ answers (place + length f) (after st f) fs
+
+-- ---- a whole input: each field takes its header and the bytes that it announces, the last what is left; an empty input is a field
+-- without bytes
+abbrev pub fieldLength : List ℕ → ℕ
+fieldLength f = 3 + bodyLength f
+
+unfoldable pub fieldsWithin : ℕ → List ℕ → List (List ℕ)
+fieldsWithin zero input = []
+fieldsWithin (suc n) [] = []
+fieldsWithin (suc n) (t ∷ rest) =
+    let input = t ∷ rest in take (fieldLength input) input ∷ fieldsWithin n (drop (fieldLength input) input)
+
+unfoldable pub fields : List ℕ → List (List ℕ)
+fields [] = [] ∷ []
+fields (t ∷ rest) = fieldsWithin (length (t ∷ rest)) (t ∷ rest)
