@@ -1,0 +1,55 @@
+//! Files that went wrong on the way: cut, with bytes changed, or nothing but noise.
+
+use super::valid::{run, MIXED};
+use crate::field::{count_bytes, expected_length};
+use crate::random::Random;
+
+pub fn cut(random: &mut Random) -> Vec<u8> {
+    let mut bytes = run(random, &MIXED);
+    bytes.truncate(random.below(bytes.len()));
+    bytes
+}
+
+pub fn damaged(random: &mut Random) -> Vec<u8> {
+    let mut bytes = run(random, &MIXED);
+    for _ in 0..1 + random.below(4) {
+        let place = random.below(bytes.len());
+        match random.below(4) {
+            0 => bytes[place] = random.word() as u8,
+            1 => bytes[place] ^= 1 << random.below(8),
+            2 => bytes.insert(place, random.word() as u8),
+            _ => {
+                bytes.remove(place);
+            }
+        }
+    }
+    bytes
+}
+
+pub fn bytes(random: &mut Random) -> Vec<u8> {
+    match random.below(4) {
+        0 => return noise(random, 300),
+        1 => return [vec![1], noise(random, 300)].concat(),
+        _ => {}
+    }
+    let mut bytes = Vec::new();
+    for number in 0..1 + random.below(4) {
+        let tag = if number == 0 { 1 } else { 2 + random.below(6) as u8 };
+        let mut body = vec![1 + random.below(3) as u8];
+        body.extend((1..count_bytes(tag)).map(|_| random.below(3) as u8));
+        if random.once_in(3) {
+            body.extend(noise(random, 60));
+        } else {
+            let length = expected_length(tag, &body);
+            body.extend((body.len()..length).map(|i| if i % 4 < 2 { random.below(3) as u8 } else { 0 }));
+        }
+        bytes.push(tag);
+        bytes.extend((body.len() as u16).to_le_bytes());
+        bytes.extend(body);
+    }
+    bytes
+}
+
+fn noise(random: &mut Random, limit: usize) -> Vec<u8> {
+    (0..random.below(limit)).map(|_| random.word() as u8).collect()
+}

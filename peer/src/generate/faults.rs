@@ -1,0 +1,141 @@
+//! One thing wrong: in a field's numbers, or in its bytes.
+
+use crate::bounds::{BOUND_LIMIT, MAX_HALFSPACES};
+use crate::field::{Field, HEADER};
+use crate::random::Random;
+use crate::run::MAX_DISTURBANCE;
+use crate::set::{Set, MAX_DIMENSION, MAX_FACTORS, MAX_FILE_IDENTIFIER, MAX_GENERATORS, MAX_TERMS, SPAN_LIMIT};
+use crate::step::{CONSTANT_LIMIT, ENTRY_LIMIT};
+
+pub fn body_of(field: &mut Field) -> Option<&mut Set> {
+    match field {
+        Field::Start(body) | Field::Independent(body) | Field::Tied(body) => Some(body),
+        _ => None,
+    }
+}
+
+/// Puts one number out of its range, if the field has one that has a range.
+pub fn out_of_range(random: &mut Random, field: &mut Field) -> bool {
+    let beyond = |random: &mut Random, limit: i128| {
+        *random.pick(&[limit + 1, -limit - 1, i128::from(i32::MAX), i128::from(i32::MIN)])
+    };
+    match field {
+        Field::Start(body) | Field::Independent(body) | Field::Tied(body) => match random.below(3) {
+            0 if !body.identifiers.is_empty() => {
+                let k = random.below(body.identifiers.len());
+                body.identifiers[k] = *random.pick(&[0, -1, MAX_FILE_IDENTIFIER + 1, i128::from(i32::MAX)]);
+            }
+            1 if !body.terms.is_empty() => {
+                let (t, k) = (random.below(body.terms.len()), random.below(body.identifiers.len()));
+                body.terms[t].exponents[k] = *random.pick(&[64, 65, 126, 128, 255]);
+            }
+            _ => {
+                let i = random.below(body.dimension());
+                body.radii[i] = *random.pick(&[-1, -2, i128::from(i32::MIN)]);
+            }
+        },
+        Field::Step(step) => {
+            let (i, j, l) = (
+                random.below(step.constant.len()),
+                random.below(step.from_dimension()),
+                random.below(step.from_dimension()),
+            );
+            match random.below(3) {
+                0 => step.constant[i] = beyond(random, CONSTANT_LIMIT),
+                1 => step.matrix[i][j] = beyond(random, ENTRY_LIMIT),
+                _ => step.forms[i][j][l] = beyond(random, ENTRY_LIMIT),
+            }
+        }
+        Field::Disturbance(radii) => {
+            let i = random.below(radii.len());
+            radii[i] = *random.pick(&[-1, MAX_DISTURBANCE + 1, i128::from(i32::MAX), i128::from(i32::MIN)]);
+        }
+        Field::Check(region) => {
+            let i = random.below(region.len());
+            if random.once_in(2) {
+                let j = random.below(region[i].normal.len());
+                region[i].normal[j] = beyond(random, ENTRY_LIMIT);
+            } else {
+                region[i].bound = *random.pick(&[BOUND_LIMIT + 1, -BOUND_LIMIT - 1, i64::MIN.into(), i64::MAX.into()]);
+            }
+        }
+        Field::Reduce(_) => return false,
+    }
+    true
+}
+
+/// Breaks one of the ordering and zero rules, if there is room for the one picked.
+pub fn break_rule(random: &mut Random, body: &mut Set) -> bool {
+    let (p, h) = (body.identifiers.len(), body.terms.len());
+    match random.below(7) {
+        0 if p >= 2 => body.identifiers.swap(0, p - 1),
+        1 if p >= 2 => body.identifiers[p - 1] = body.identifiers[p - 2],
+        2 if h >= 2 => body.terms.swap(0, h - 1),
+        3 if h >= 2 => body.terms[1].exponents = body.terms[0].exponents.clone(),
+        4 if h >= 1 => body.terms[0].exponents.fill(0),
+        5 if h >= 1 => {
+            let t = random.below(h);
+            body.terms[t].coefficients.fill(0);
+        }
+        6 if !body.generators.is_empty() => {
+            let g = random.below(body.generators.len());
+            body.generators[g].fill(0);
+        }
+        _ if p < MAX_FACTORS && body.identifiers.last() < Some(&MAX_FILE_IDENTIFIER) => {
+            body.identifiers.push(body.identifiers.last().map_or(1, |id| id + 1));
+            body.terms.iter_mut().for_each(|term| term.exponents.push(0));
+        }
+        _ => return false,
+    }
+    true
+}
+
+pub fn widen(random: &mut Random, body: &mut Set) {
+    let i = random.below(body.dimension());
+    let room = SPAN_LIMIT - body.span(i);
+    match random.below(4) {
+        0 => body.radii[i] += (room + 1).max(0),
+        1 => body.centre[i] = i128::from(i32::MIN),
+        2 => body.radii[i] = i128::from(i32::MAX),
+        _ if body.centre[i] < 0 => body.centre[i] -= room + 1,
+        _ => body.centre[i] += room + 1,
+    }
+}
+
+pub fn break_tag(random: &mut Random, bytes: &mut [u8], first: bool) {
+    bytes[0] = if first { *random.pick(&[0, 2, 3, 4, 5, 6, 7, 8, 255]) } else { *random.pick(&[0, 1, 8, 9, 128, 255]) };
+}
+
+/// Makes the body longer or shorter, and the length that the field states with it.
+pub fn break_length(random: &mut Random, bytes: &mut Vec<u8>) {
+    let length = bytes.len() - HEADER;
+    let other = match random.below(4) {
+        0 => length + 1 + random.below(8),
+        1 => length.saturating_sub(1 + random.below(8)),
+        2 => 0,
+        _ => random.below(length.max(1)),
+    };
+    bytes.resize(HEADER + other, 0);
+    bytes[1..HEADER].copy_from_slice(&(other as u16).to_le_bytes());
+}
+
+/// Puts one of the count bytes out of its limits.
+pub fn break_count(random: &mut Random, bytes: &mut [u8]) {
+    let [tag, _, _, counts @ ..] = bytes else { return };
+    let (place, limit, from_zero) = match *tag {
+        1 | 4 | 5 => *random.pick(&[
+            (0, MAX_DIMENSION, false),
+            (1, MAX_FACTORS, true),
+            (2, MAX_TERMS, true),
+            (3, MAX_GENERATORS, true),
+        ]),
+        2 => *random.pick(&[(0, MAX_DIMENSION, false), (1, MAX_DIMENSION, false)]),
+        3 => (0, MAX_DIMENSION, false),
+        6 => *random.pick(&[(0, MAX_TERMS, true), (1, MAX_GENERATORS, true)]),
+        _ => *random.pick(&[(0, MAX_DIMENSION, false), (1, MAX_HALFSPACES, false)]),
+    };
+    if let Some(count) = counts.get_mut(place) {
+        let over = limit as u8 + 1;
+        *count = *random.pick(&[over, over + 1, 255, if from_zero { over } else { 0 }]);
+    }
+}

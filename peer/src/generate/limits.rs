@@ -1,0 +1,113 @@
+//! Run files with something at a limit, and the plain fields that such files are made of.
+
+use crate::bounds::{Halfspace, BOUND_LIMIT, MAX_HALFSPACES};
+use crate::field::Field;
+use crate::finish::Limits;
+use crate::random::Random;
+use crate::run::{MAX_DISTURBANCE, MAX_FIELDS};
+use crate::set::{
+    Set, Term, MAX_DIMENSION, MAX_EXPONENT, MAX_FACTORS, MAX_FILE_IDENTIFIER, MAX_GENERATORS, MAX_TERMS, SPAN_LIMIT,
+};
+use crate::step::{Step, CONSTANT_LIMIT, ENTRY_LIMIT, UNIT};
+
+/// A run with one number or count at its limit, one below or one above.
+pub fn at_a_limit(random: &mut Random) -> Vec<u8> {
+    let by = random.between(-1, 1);
+    let sign = if random.once_in(2) { 1 } else { -1 };
+    let near = |limit: usize| (limit as i128 + by) as usize;
+    let set = |n, p, h, q| Field::Start(plain_set(n, p, h, q));
+    let start = set(2, 1, 1, 1);
+    let mut body = plain_set(2, 1, 1, 1);
+    let mut step = zero_step(2, 2);
+    let fields = match random.below(20) {
+        0 => {
+            body.terms[0].exponents[0] = near(MAX_EXPONENT as usize) as u32;
+            vec![start, Field::Tied(body)]
+        }
+        1 => {
+            body.identifiers[0] = *random.pick(&[MAX_FILE_IDENTIFIER + by, 1 + by]);
+            vec![start, Field::Independent(body)]
+        }
+        2 => {
+            body.radii[1] = by;
+            vec![start, Field::Tied(body)]
+        }
+        3 => {
+            body.centre[0] = sign * (SPAN_LIMIT + by - 2);
+            vec![Field::Start(body)]
+        }
+        4 => {
+            step.constant[1] = sign * (CONSTANT_LIMIT + by);
+            vec![start, Field::Step(step)]
+        }
+        5 => {
+            step.matrix[1][0] = sign * (ENTRY_LIMIT + by);
+            vec![start, Field::Step(step)]
+        }
+        6 => {
+            step.forms[0][1][0] = sign * (ENTRY_LIMIT + by);
+            vec![start, Field::Step(step)]
+        }
+        7 => vec![start, Field::Check(vec![Halfspace { normal: vec![0, sign * (ENTRY_LIMIT + by)], bound: 0 }])],
+        8 => vec![start, Field::Check(vec![Halfspace { normal: vec![1, -1], bound: sign * (BOUND_LIMIT + by) }])],
+        9 => vec![set(2, 0, 0, 0), Field::Disturbance(vec![MAX_DISTURBANCE + by, MAX_DISTURBANCE])],
+        10 => vec![start, Field::Disturbance(vec![0, by])],
+        11 => vec![start, Field::Reduce(Limits { terms: near(MAX_TERMS), generators: MAX_GENERATORS })],
+        12 => vec![start, Field::Reduce(Limits { terms: 0, generators: near(MAX_GENERATORS) })],
+        13 => match random.below(8) {
+            0 => vec![set(near(MAX_DIMENSION), 1, 1, 1)],
+            1 => vec![set(near(1), 1, 1, 1)],
+            2 => vec![set(2, near(MAX_FACTORS), 1, 0)],
+            3 => vec![set(2, 1, near(MAX_TERMS), 0)],
+            4 => vec![set(2, 1, 1, near(MAX_GENERATORS))],
+            5 => vec![start, Field::Step(zero_step(near(*random.pick(&[1, MAX_DIMENSION])), 2))],
+            6 => vec![set(MAX_DIMENSION, 0, 0, 0), Field::Step(zero_step(2, near(MAX_DIMENSION)))],
+            _ => vec![set(MAX_DIMENSION, 0, 0, 0), Field::Disturbance(vec![0; near(MAX_DIMENSION)])],
+        },
+        14 => {
+            let count = *random.pick(&[near(MAX_HALFSPACES), near(1)]);
+            vec![start, Field::Check(vec![Halfspace { normal: vec![1, 1], bound: 0 }; count])]
+        }
+        15 => return full(near(MAX_FIELDS)),
+        16 => {
+            let first = 1 + random.below(11);
+            vec![set(1, first, 1, 0), Field::Independent(plain_set(1, near(MAX_FACTORS) - first, 1, 0))]
+        }
+        17 => vec![start, Field::Disturbance(vec![SPAN_LIMIT - 2 + by, 0])],
+        18 => {
+            step.forms[0][0][0] = UNIT;
+            body.terms[0].exponents[0] = near(*random.pick(&[32, 62])) as u32;
+            body.terms[0].coefficients[0] = 9_000;
+            vec![Field::Start(body), Field::Step(step)]
+        }
+        _ => {
+            let mut dense = zero_step(MAX_DIMENSION, MAX_DIMENSION);
+            dense.forms.iter_mut().flatten().flatten().for_each(|q| *q = random.between(-UNIT, UNIT));
+            let mut fullest = plain_set(MAX_DIMENSION, MAX_FACTORS, MAX_TERMS, MAX_GENERATORS);
+            fullest.terms.iter_mut().for_each(|t| t.coefficients[0] = random.between(1, 2_000));
+            vec![Field::Start(fullest), Field::Step(dense)]
+        }
+    };
+    fields.iter().flat_map(Field::encode).collect()
+}
+
+/// A start set and so many fields after it that change nothing.
+pub fn full(fields: usize) -> Vec<u8> {
+    let reduce = Field::Reduce(Limits { terms: MAX_TERMS, generators: MAX_GENERATORS });
+    [Field::Start(plain_set(1, 1, 1, 0)).encode(), reduce.encode().repeat(fields)].concat()
+}
+
+/// A set of the given counts, in limits or not, with all numbers 1 and zero centre and radii.
+pub fn plain_set(n: usize, p: usize, h: usize, q: usize) -> Set {
+    Set {
+        identifiers: (1..).take(p).collect(),
+        centre: vec![0; n],
+        terms: (1..).take(h).map(|e| Term { exponents: vec![e; p], coefficients: vec![1; n] }).collect(),
+        generators: vec![vec![1; n]; q],
+        radii: vec![0; n],
+    }
+}
+
+pub fn zero_step(m: usize, n: usize) -> Step {
+    Step { constant: vec![0; m], matrix: vec![vec![0; n]; m], forms: vec![vec![vec![0; n]; n]; m] }
+}

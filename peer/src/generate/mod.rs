@@ -1,0 +1,69 @@
+//! Run files to try programs with, the same for a kind and seed on every machine.
+
+mod aimed;
+mod damage;
+mod faults;
+mod limits;
+mod parts;
+mod valid;
+
+use crate::random::Random;
+
+pub struct Kind {
+    pub name: &'static str,
+    pub about: &'static str,
+    make: fn(&mut Random) -> Vec<u8>,
+}
+
+/// The kinds whose files a run accepts to the end.
+pub const VALID: [Kind; 10] = [
+    kind("mixed", "valid: fields of all kinds", |r| valid::run(r, &valid::MIXED)),
+    kind("sharp", "valid: terms alone, no generators or radii", |r| valid::run(r, &valid::SHARP)),
+    kind("terms", "valid: steps on many terms, folding by size", |r| valid::run(r, &valid::TERMS)),
+    kind("exponents", "valid: exponents near 63, folding by exponent", |r| valid::run(r, &valid::EXPONENTS)),
+    kind("generators", "valid: many generators and their folding", |r| valid::run(r, &valid::GENERATORS)),
+    kind("reductions", "valid: reductions to few terms and generators", |r| valid::run(r, &valid::REDUCTIONS)),
+    kind("dimensions", "valid: steps that change the dimension", |r| valid::run(r, &valid::DIMENSIONS)),
+    kind("sums", "valid: many independent sums, with factors dropped in between", |r| valid::run(r, &valid::SUMS)),
+    kind("wide", "valid: spans near 1,048,576", |r| valid::run(r, &valid::WIDE)),
+    kind("long", "valid: 4,096 fields after the start", |r| valid::run(r, &valid::LONG)),
+];
+
+/// The kinds whose files are refused with the number in their name.
+pub const REFUSED: [Kind; 11] = [
+    kind("refusal-1", "input that ends inside a field, or is empty", |r| aimed::refused(r, 1)),
+    kind("refusal-2", "an unknown or misplaced tag", |r| aimed::refused(r, 2)),
+    kind("refusal-3", "a length that the counts don't give", |r| aimed::refused(r, 3)),
+    kind("refusal-4", "a count or limit byte out of limits", |r| aimed::refused(r, 4)),
+    kind("refusal-5", "another dimension than the set's", |r| aimed::refused(r, 5)),
+    kind("refusal-6", "a number out of range", |r| aimed::refused(r, 6)),
+    kind("refusal-7", "a broken ordering or zero rule", |r| aimed::refused(r, 7)),
+    kind("refusal-8", "a given set that is too wide", |r| aimed::refused(r, 8)),
+    kind("refusal-9", "a sum with too many factors", |r| aimed::refused(r, 9)),
+    kind("refusal-10", "a result that is too wide", |r| aimed::refused(r, 10)),
+    kind("refusal-12", "a field after the last that may follow", |r| aimed::refused(r, 12)),
+];
+
+pub const OTHERS: [Kind; 5] = [
+    kind("order", "several causes of refusal in one field", aimed::several_causes),
+    kind("limits", "a number or count at a limit or one beyond", limits::at_a_limit),
+    kind("cut", "a valid file cut somewhere", damage::cut),
+    kind("damaged", "a valid file with bytes changed, lost or added", damage::damaged),
+    kind("bytes", "random bytes, or random bodies under good headers", damage::bytes),
+];
+
+const fn kind(name: &'static str, about: &'static str, make: fn(&mut Random) -> Vec<u8>) -> Kind {
+    Kind { name, about, make }
+}
+
+impl Kind {
+    pub fn file(&self, seed: u64) -> Vec<u8> {
+        // The name joins the seed so that kinds with the same seed differ in their picks too.
+        let mixed = self.name.bytes().fold(seed, |s, b| s.wrapping_mul(1_099_511_628_211) ^ u64::from(b));
+        (self.make)(&mut Random::new(mixed))
+    }
+}
+
+pub fn kinds() -> impl Iterator<Item = &'static Kind> {
+    VALID.iter().chain(&REFUSED).chain(&OTHERS)
+}

@@ -1,0 +1,19 @@
+//! A second implementation of document 01, from its words alone, in the plainest style: wide integers
+//! and vectors. It is what the proved program is held against.
+
+pub mod bounds;
+pub mod field;
+pub mod finish;
+pub mod follow;
+pub mod fraction;
+pub mod generate;
+pub mod number;
+pub mod plan;
+pub mod random;
+pub mod run;
+pub mod set;
+pub mod show;
+pub mod step;
+pub mod sums;
+pub mod text;
+pub mod zonotope;

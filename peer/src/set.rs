@@ -1,0 +1,72 @@
+//! The set: a polynomial zonotope with generators and a box of radii around it, in whole units of
+//! 1/4096 of the user's unit (document 01: grains).
+
+pub const MAX_DIMENSION: usize = 6;
+pub const MAX_FACTORS: usize = 12;
+pub const MAX_TERMS: usize = 40;
+pub const MAX_GENERATORS: usize = 24;
+pub const MAX_EXPONENT: u32 = 63;
+pub const MAX_FILE_IDENTIFIER: i128 = 65_535;
+pub const SPAN_LIMIT: i128 = 1_048_576;
+
+/// Coefficients times a product of factor powers; one exponent for each factor of its set.
+#[derive(Clone, Debug, PartialEq, Eq)]
+pub struct Term {
+    pub exponents: Vec<u32>,
+    pub coefficients: Vec<i128>,
+}
+
+impl Term {
+    /// Whether the product of powers is never negative because each power is even.
+    pub fn is_even(&self) -> bool {
+        self.exponents.iter().all(|e| e % 2 == 0)
+    }
+}
+
+#[derive(Clone, Debug, PartialEq, Eq)]
+pub struct Set {
+    pub identifiers: Vec<i128>,
+    pub centre: Vec<i128>,
+    pub terms: Vec<Term>,
+    pub generators: Vec<Vec<i128>>,
+    /// Half the width of the surrounding box in each coordinate (document 01: the skirt).
+    pub radii: Vec<i128>,
+}
+
+impl Set {
+    pub fn dimension(&self) -> usize {
+        self.centre.len()
+    }
+
+    /// The largest distance from 0 that coordinate `i` could have if every part pulled one way.
+    pub fn span(&self, i: usize) -> i128 {
+        let terms: i128 = self.terms.iter().map(|t| t.coefficients[i].abs()).sum();
+        let generators: i128 = self.generators.iter().map(|g| g[i].abs()).sum();
+        self.centre[i].abs() + terms + generators + self.radii[i]
+    }
+
+    pub fn is_too_wide(&self) -> bool {
+        (0..self.dimension()).any(|i| self.span(i) > SPAN_LIMIT)
+    }
+
+    /// Identifiers, exponents and radii of a body within their ranges.
+    pub fn is_in_range(&self) -> bool {
+        let identifiers = self.identifiers.iter().all(|id| (1..=MAX_FILE_IDENTIFIER).contains(id));
+        let exponents = self.terms.iter().all(|t| t.exponents.iter().all(|e| *e <= MAX_EXPONENT));
+        identifiers && exponents && self.radii.iter().all(|r| *r >= 0)
+    }
+
+    /// The ordering and zero rules, and no factor that occurs in no term.
+    pub fn keeps_rules(&self) -> bool {
+        let zero = |numbers: &[i128]| numbers.iter().all(|v| *v == 0);
+        self.identifiers.windows(2).all(|w| w[0] < w[1])
+            && self.terms.windows(2).all(|w| w[0].exponents < w[1].exponents)
+            && self.terms.iter().all(|t| t.exponents.iter().any(|e| *e > 0) && !zero(&t.coefficients))
+            && self.generators.iter().all(|g| !zero(g))
+            && (0..self.identifiers.len()).all(|k| self.uses_factor(k))
+    }
+
+    pub fn uses_factor(&self, k: usize) -> bool {
+        self.terms.iter().any(|t| t.exponents[k] > 0)
+    }
+}

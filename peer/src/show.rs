@@ -1,0 +1,73 @@
+//! The other way: any bytes as a plan whose encoding they are. What doesn't read as a field, and all
+//! after it, is shown as raw bytes.
+
+use std::fmt::Write;
+
+use crate::field::{count_bytes, counts_fit, decode, expected_length, is_known_tag, Field, HEADER};
+use crate::text::{joined, labelled, set_lines};
+
+const RAW_BYTES_A_LINE: usize = 24;
+
+pub fn show(input: &[u8]) -> String {
+    let mut text = String::new();
+    let mut place = 0;
+    let mut number = 0;
+    while let Some((field, length)) = well_formed(&input[place..]) {
+        let (head, parts) = block(&field);
+        // Writing to a string cannot fail.
+        let _ = writeln!(text, "{head}  # field {number}, byte {place}");
+        for part in parts {
+            let _ = writeln!(text, "  {part}");
+        }
+        place += length;
+        number += 1;
+    }
+    if place < input.len() {
+        let _ = writeln!(text, "# field {number}, byte {place}: not a well-formed field");
+    }
+    for bytes in input[place..].chunks(RAW_BYTES_A_LINE) {
+        let bytes: Vec<String> = bytes.iter().map(|b| format!("{b:02x}")).collect();
+        let _ = writeln!(text, "raw {}", joined(&bytes));
+    }
+    text
+}
+
+/// The field at the front, if it is whole, with counts within limits and the length they give.
+fn well_formed(input: &[u8]) -> Option<(Field, usize)> {
+    let [tag, low, high, rest @ ..] = input else { return None };
+    let body = rest.get(..usize::from(u16::from_le_bytes([*low, *high])))?;
+    let fits = is_known_tag(*tag)
+        && body.len() >= count_bytes(*tag)
+        && (*tag == 6 || counts_fit(*tag, body))
+        && body.len() == expected_length(*tag, body);
+    fits.then(|| (decode(*tag, body), HEADER + body.len()))
+}
+
+fn block(field: &Field) -> (String, Vec<String>) {
+    match field {
+        Field::Start(set) => (format!("start {}", set.dimension()), set_lines(set)),
+        Field::Independent(set) => (format!("independent {}", set.dimension()), set_lines(set)),
+        Field::Tied(set) => (format!("tied {}", set.dimension()), set_lines(set)),
+        Field::Step(step) => {
+            let mut parts = vec![labelled("c", &step.constant), format!("A {}", rows(&step.matrix))];
+            for (i, form) in step.forms.iter().enumerate() {
+                if form.iter().flatten().any(|v| *v != 0) {
+                    parts.push(format!("Q {} : {}", i + 1, rows(form)));
+                }
+            }
+            (format!("step {} from {}", step.constant.len(), step.from_dimension()), parts)
+        }
+        Field::Disturbance(radii) => (format!("disturbance {}", radii.len()), vec![labelled("radii", radii)]),
+        Field::Reduce(limits) => (format!("reduce {} {}", limits.terms, limits.generators), Vec::new()),
+        Field::Check(region) => {
+            let halfspace =
+                |h: &crate::bounds::Halfspace| format!("{} : {}", labelled("halfspace", &h.normal), h.bound);
+            let dimension = field.taken_dimension().unwrap_or(0);
+            (format!("check {dimension}"), region.iter().map(halfspace).collect())
+        }
+    }
+}
+
+fn rows(rows: &[Vec<i128>]) -> String {
+    rows.iter().map(|row| joined(row)).collect::<Vec<_>>().join(" / ")
+}

@@ -1,0 +1,128 @@
+//! Sampled motions stay where the run says; and where it says something wrong, that is caught.
+
+use crate::common::run_file;
+use peer::field::Field;
+use peer::finish::Finished;
+use peer::follow::{follow, Escape, Manner, Motion};
+use peer::generate::VALID;
+use peer::run::{Accepted, Outcome, Run};
+use peer::sums::tied_sum;
+
+#[test]
+fn no_motion_escapes_from_generated_runs() {
+    for kind in &VALID {
+        for seed in 0..if kind.name == "long" { 1 } else { 12 } {
+            let report = follow(&kind.file(seed), 8, seed);
+            assert!(!report.escaped, "{} {seed}\n{}", kind.name, report.text);
+        }
+    }
+}
+
+/// Follows one motion and gives its first escape from what `answer` makes of each field.
+fn first_escape(bytes: &[u8], manner: Manner, answer: impl Fn(&mut Accepted)) -> Option<(usize, Escape)> {
+    let mut motion = Motion::new(manner, 1);
+    for item in Run::new(bytes) {
+        let mut accepted = item.expect("accepted");
+        answer(&mut accepted);
+        motion.accept(&accepted);
+        if let Some(escape) = motion.escape(&accepted.set, &accepted.outcome, &accepted.field) {
+            return Some((accepted.number, escape));
+        }
+    }
+    None
+}
+
+fn plan() -> Vec<u8> {
+    run_file(
+        "start 2\nidentifiers 1\nterm 1 : 900 700\ngenerator 30 -20\nradii 5 6\n\
+         step 2 from 2\nA 3000 500 / -500 2000\nQ 1 : 10 0 / 0 0\n\
+         check 2\nhalfspace 1.0 0.0 : 0",
+    )
+}
+
+#[test]
+fn right_answers_are_not_faulted() {
+    for manner in [Manner::High, Manner::Low, Manner::Ends, Manner::Any] {
+        assert_eq!(first_escape(&plan(), manner, |_| ()), None);
+    }
+}
+
+#[test]
+fn a_narrowed_box_is_caught() {
+    let narrowed = first_escape(&plan(), Manner::High, |accepted| {
+        if let (1, Outcome::Box(ends)) = (accepted.number, &mut accepted.outcome) {
+            ends[0].1 -= 20;
+        }
+    });
+    assert_eq!(narrowed, Some((1, Escape::Box(1))));
+}
+
+#[test]
+fn a_narrowed_set_is_caught() {
+    let narrowed = first_escape(&plan(), Manner::High, |accepted| accepted.set.radii[1] = 1);
+    assert_eq!(narrowed, Some((0, Escape::Set)));
+}
+
+/// The box alone would not show this one: the coefficient has the wrong sign.
+#[test]
+fn a_set_at_other_factor_values_is_caught() {
+    let turned = first_escape(&plan(), Manner::High, |accepted| {
+        accepted.set.terms[0].coefficients.iter_mut().for_each(|g| *g = -*g);
+    });
+    assert_eq!(turned, Some((0, Escape::Set)));
+}
+
+#[test]
+fn a_wrong_generator_is_caught() {
+    let turned = first_escape(&plan(), Manner::High, |accepted| accepted.set.generators[0][0] *= -1);
+    assert_eq!(turned, Some((0, Escape::Set)));
+}
+
+#[test]
+fn a_wrong_verdict_is_caught() {
+    let wrong = first_escape(&plan(), Manner::Low, |accepted| {
+        if let Outcome::Verdict { safe } = &mut accepted.outcome {
+            *safe = true;
+        }
+    });
+    assert_eq!(wrong, Some((2, Escape::Safe)));
+}
+
+/// An independent sum that keeps the body's identifiers cancels what does not cancel.
+#[test]
+fn an_independent_sum_done_as_a_tied_one_is_caught() {
+    let bytes = run_file("start 1\nidentifiers 1\nterm 1 : 9\nindependent 1\nidentifiers 1\nterm 1 : -9");
+    let escapes = (0..8).filter(|seed| {
+        let mut motion = Motion::new(Manner::Any, *seed);
+        let mut before = None;
+        Run::new(&bytes).any(|item| {
+            let mut accepted = item.expect("accepted");
+            if let (Field::Independent(body), Some(set)) = (&accepted.field, &before) {
+                let Finished { set, kept, .. } = tied_sum(set, body).expect("few factors");
+                (accepted.set, accepted.kept) = (set, kept);
+            }
+            before = Some(accepted.set.clone());
+            motion.accept(&accepted);
+            motion.escape(&accepted.set, &accepted.outcome, &accepted.field).is_some()
+        })
+    });
+    assert!(escapes.count() > 4);
+}
+
+#[test]
+fn a_motion_whose_numbers_grow_too_long_is_said_to_stop() {
+    let start = "start 1\nidentifiers 1\nterm 1 : 4095\n";
+    let steps = |count| run_file(&format!("{start}repeat {count} {{\nstep 1 from 1\nA 1001\nQ 1 : 1003\n}}"));
+    let stop = "motion 0 (High): followed to field 9, over 8192 bits long there\n";
+    let end = |whole, last| format!("no escape among 1 motions, {whole} of them followed to the last field, {last}\n");
+    assert_eq!(follow(&steps(12), 1, 1).text, format!("{stop}{}", end(0, 12)));
+    assert_eq!(follow(&steps(9), 1, 1).text, end(1, 9));
+}
+
+#[test]
+fn a_refused_field_ends_the_following() {
+    let text = follow(&run_file("start 1\ncentre 5\ndisturbance 2"), 4, 1).text;
+    let end = "no escape among 4 motions, 4 of them followed to the last field, 0\n";
+    assert_eq!(text, format!("field 1 is refused with 5\n{end}"));
+    assert_eq!(follow(&[], 4, 1).text, "field 0 is refused with 1\nno field to follow\n");
+}

@@ -1,0 +1,146 @@
+//! The generator's reach over a fixed set of seeds.
+
+use std::collections::BTreeSet;
+
+use peer::generate::{kinds, Kind, REFUSED, VALID};
+use peer::random::Random;
+use peer::run::{Accepted, Outcome, Refusal, Run, FIRST_MARK, MAX_FIELDS};
+use peer::set::{MAX_EXPONENT, MAX_FACTORS, MAX_GENERATORS, MAX_TERMS, SPAN_LIMIT};
+
+const SEEDS: u64 = 40;
+
+fn seeds(kind: &Kind) -> std::ops::Range<u64> {
+    0..if kind.name == "long" { 2 } else { SEEDS }
+}
+
+fn run(bytes: &[u8]) -> (Vec<Accepted>, Option<Refusal>) {
+    let mut accepted = Vec::new();
+    for item in Run::new(bytes) {
+        match item {
+            Ok(field) => accepted.push(field),
+            Err(refusal) => return (accepted, Some(refusal)),
+        }
+    }
+    (accepted, None)
+}
+
+fn kind(name: &str) -> &'static Kind {
+    kinds().find(|kind| kind.name == name).expect("a kind")
+}
+
+#[test]
+fn random_numbers_are_those_of_splitmix64() {
+    let mut random = Random::new(0);
+    assert_eq!([random.word(), random.word()], [0xe220_a839_7b1d_cdaf, 0x6e78_9e6a_a1b9_65f4]);
+}
+
+#[test]
+fn files_depend_on_kind_and_seed_alone() {
+    for kind in kinds() {
+        assert_eq!(kind.file(3), kind.file(3), "{}", kind.name);
+        let different: BTreeSet<Vec<u8>> = (0..10).map(|seed| kind.file(seed)).collect();
+        assert!(different.len() > 1, "{}", kind.name);
+    }
+}
+
+#[test]
+fn valid_kinds_run_to_the_end() {
+    for kind in &VALID {
+        for seed in seeds(kind) {
+            let (accepted, refusal) = run(&kind.file(seed));
+            assert_eq!(refusal, None, "{} {seed}", kind.name);
+            assert!(accepted.len() > 3, "{} {seed}", kind.name);
+        }
+    }
+    assert_eq!(run(&kind("long").file(0)).0.len(), 1 + MAX_FIELDS);
+}
+
+#[test]
+fn valid_kinds_reach_deep() {
+    let mut tags = BTreeSet::new();
+    let mut verdicts = BTreeSet::new();
+    let mut dimensions = BTreeSet::new();
+    let (mut by_exponent, mut by_size, mut generators) = (0, 0, 0);
+    let (mut fullest, mut highest_exponent, mut widest, mut highest_mark) = ([0; 3], 0, 0, FIRST_MARK);
+    for kind in &VALID {
+        for seed in seeds(kind) {
+            for field in run(&kind.file(seed)).0 {
+                tags.insert(field.field.tag());
+                dimensions.insert(field.set.dimension());
+                if let Outcome::Verdict { safe } = field.outcome {
+                    verdicts.insert(safe);
+                }
+                by_exponent += field.folds.by_exponent;
+                by_size += field.folds.by_size;
+                generators += field.folds.generators;
+                let set = &field.set;
+                let counts = [set.identifiers.len(), set.terms.len(), set.generators.len()];
+                fullest = std::array::from_fn(|i| fullest[i].max(counts[i]));
+                let exponents = set.terms.iter().flat_map(|t| &t.exponents).copied();
+                highest_exponent = exponents.fold(highest_exponent, u32::max);
+                widest = (0..set.dimension()).map(|i| set.span(i)).fold(widest, i128::max);
+                highest_mark = highest_mark.max(field.mark);
+            }
+        }
+    }
+    assert_eq!(tags, (1..=7).collect());
+    assert_eq!(verdicts, [false, true].into());
+    assert_eq!(dimensions, (1..=6).collect());
+    assert!(by_exponent > 100 && by_size > 1_000 && generators > 100, "{by_exponent} {by_size} {generators}");
+    assert_eq!(fullest, [MAX_FACTORS, MAX_TERMS, MAX_GENERATORS]);
+    assert_eq!((highest_exponent, widest), (MAX_EXPONENT, SPAN_LIMIT));
+    assert!(highest_mark > FIRST_MARK + 500, "{highest_mark}");
+}
+
+#[test]
+fn each_refusal_is_hit_by_its_kind() {
+    for kind in &REFUSED {
+        let mut at_start = false;
+        for seed in seeds(kind) {
+            let (accepted, refusal) = run(&kind.file(seed));
+            let number = refusal.expect("refused").cause as u8;
+            assert_eq!(format!("refusal-{number}"), kind.name, "seed {seed}");
+            at_start |= accepted.is_empty();
+        }
+        let never_first = ["refusal-5", "refusal-9", "refusal-10", "refusal-12"].contains(&kind.name);
+        assert_eq!(at_start, !never_first, "{}", kind.name);
+    }
+}
+
+/// Tags of the fields that a kind has refused.
+fn refused_tags(name: &str) -> BTreeSet<u8> {
+    let file_and_place = |seed| {
+        let bytes = kind(name).file(seed);
+        let place = run(&bytes).1.map(|refusal| refusal.place);
+        place.and_then(|place| bytes.get(place).copied())
+    };
+    (0..300).filter_map(file_and_place).collect()
+}
+
+#[test]
+fn refusals_come_in_fields_of_every_kind_that_can_have_them() {
+    assert_eq!(refused_tags("refusal-1"), (1..=7).collect());
+    assert_eq!(refused_tags("refusal-3"), (1..=7).collect());
+    assert_eq!(refused_tags("refusal-4"), (1..=7).collect());
+    assert_eq!(refused_tags("refusal-5"), [2, 3, 4, 5, 7].into());
+    assert_eq!(refused_tags("refusal-6"), [1, 2, 3, 4, 5, 7].into());
+    assert_eq!(refused_tags("refusal-7"), [1, 4, 5].into());
+    assert_eq!(refused_tags("refusal-8"), [1, 4, 5].into());
+    assert_eq!(refused_tags("refusal-9"), [4, 5].into());
+    assert_eq!(refused_tags("refusal-10"), [2, 3, 4, 5, 6].into());
+}
+
+/// How files of a kind end: with 0 for the end of input between fields, else the refusal's number.
+fn endings(name: &str, seeds: u64) -> BTreeSet<u8> {
+    let ending = |seed| run(&kind(name).file(seed)).1.map_or(0, |refusal| refusal.cause as u8);
+    (0..seeds).map(ending).collect()
+}
+
+#[test]
+fn other_kinds_end_in_every_way_they_can() {
+    assert!(endings("order", 400).is_superset(&[1, 2, 3, 4, 5, 6, 7, 8, 9, 12].into()));
+    assert!(endings("limits", 400).is_superset(&[0, 4, 6, 8, 9, 10, 12].into()));
+    assert!(endings("cut", 200).is_superset(&[0, 1].into()));
+    assert!(endings("damaged", 200).is_superset(&[0, 1, 2, 3, 6, 7, 8].into()));
+    assert!(endings("bytes", 200).is_superset(&[1, 2, 3, 4, 6, 7].into()));
+}

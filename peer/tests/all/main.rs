@@ -1,0 +1,11 @@
+//! All tests of the package as one program.
+
+mod commands;
+mod common;
+mod document01;
+mod examples;
+mod following;
+mod generator;
+mod plans;
+mod readings;
+mod refusals;

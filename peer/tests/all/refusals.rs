@@ -1,0 +1,192 @@
+//! Each refusal with its number and place, the order in which causes are looked at, and the agreed
+//! readings of both.
+
+use crate::common::{last_line, run_file};
+
+const START: &str = "start 2\nidentifiers 1\nterm 1 : 5 5\n";
+/// Bytes of the field above.
+const NEXT: usize = 3 + 4 + 4 + 8 + 9 + 8;
+
+/// The last line for a field after the start set, as a plan.
+fn after_start(plan: &str) -> String {
+    last_line(&run_file(&format!("{START}{plan}")))
+}
+
+/// The same for bytes.
+fn bytes_after_start(bytes: &[u8]) -> String {
+    last_line(&[run_file(START), bytes.to_vec()].concat())
+}
+
+fn refused(number: u8) -> String {
+    format!("1 refused {number} {NEXT}")
+}
+
+#[test]
+fn input_ends() {
+    assert_eq!(last_line(&[]), "0 refused 1 0");
+    assert_eq!(last_line(&[1]), "0 refused 1 0");
+    let start = run_file(START);
+    for cut in 1..start.len() {
+        assert_eq!(last_line(&start[..cut]), "0 refused 1 0");
+    }
+    assert_eq!(last_line(&start), "end 0");
+    assert_eq!(bytes_after_start(&[2]), refused(1));
+    assert_eq!(bytes_after_start(&[3, 200, 255, 9, 9]), refused(1), "bad counts in a cut body");
+}
+
+#[test]
+fn tags() {
+    assert_eq!(last_line(&[2]), "0 refused 2 0");
+    assert_eq!(last_line(&[0, 0, 0]), "0 refused 2 0");
+    assert_eq!(bytes_after_start(&[8]), refused(2));
+    assert_eq!(bytes_after_start(&[255, 255, 255]), refused(2), "an unknown tag with a huge length");
+    assert_eq!(bytes_after_start(&[1]), refused(2), "a later start set");
+}
+
+#[test]
+fn lengths() {
+    for bytes in [&[3, 0, 0][..], &[2, 1, 0, 2], &[7, 1, 0, 2], &[6, 1, 0, 41], &[4, 3, 0, 99, 99, 99]] {
+        assert_eq!(bytes_after_start(bytes), refused(3), "too short for its counts: {bytes:?}");
+    }
+    assert_eq!(bytes_after_start(&[6, 3, 0, 40, 24, 0]), refused(3));
+    assert_eq!(bytes_after_start(&[6, 3, 0, 41, 24, 0]), refused(4), "limits come before the whole length");
+    assert_eq!(bytes_after_start(&[3, 8, 0, 2, 1, 0, 0, 0, 1, 0, 0]), refused(3));
+    assert_eq!(bytes_after_start(&[3, 10, 0, 2, 1, 0, 0, 0, 1, 0, 0, 0, 0]), refused(3));
+}
+
+#[test]
+fn counts() {
+    for body in [[0, 0, 0, 0], [7, 0, 0, 0], [2, 13, 0, 0], [2, 0, 41, 0], [2, 0, 0, 25]] {
+        assert_eq!(last_line(&[&[1, 4, 0][..], &body].concat()), "0 refused 4 0");
+        assert_eq!(bytes_after_start(&[&[5, 4, 0][..], &body].concat()), refused(4));
+    }
+    for body in [[0, 2], [7, 2], [2, 0], [2, 7]] {
+        assert_eq!(bytes_after_start(&[&[2, 2, 0][..], &body].concat()), refused(4));
+    }
+    for body in [[0, 1], [7, 1], [2, 0], [2, 9]] {
+        assert_eq!(bytes_after_start(&[&[7, 2, 0][..], &body].concat()), refused(4));
+    }
+    assert_eq!(bytes_after_start(&[3, 1, 0, 0]), refused(4));
+    assert_eq!(bytes_after_start(&[3, 1, 0, 7]), refused(4));
+    assert_eq!(after_start("reduce 40 24"), "end 1");
+    assert_eq!(after_start("reduce 41 0"), refused(4));
+    assert_eq!(after_start("reduce 0 25"), refused(4));
+}
+
+#[test]
+fn dimensions() {
+    assert_eq!(after_start("disturbance 1"), refused(5));
+    assert_eq!(after_start("tied 3"), refused(5));
+    assert_eq!(after_start("independent 1"), refused(5));
+    assert_eq!(after_start("check 1\nhalfspace 1 : 0"), refused(5));
+    assert_eq!(after_start("step 2 from 1"), refused(5));
+    assert_eq!(after_start("step 1 from 2\ndisturbance 1"), "end 2", "a step may change the dimension");
+}
+
+#[test]
+fn ranges() {
+    for (good, bad) in [
+        ("step 1 from 2\nc 1048576", "step 1 from 2\nc 1048577"),
+        ("step 1 from 2\nc -1048576", "step 1 from 2\nc -1048577"),
+        ("step 1 from 2\nA 32768 0", "step 1 from 2\nA 0 32769"),
+        ("step 1 from 2\nA -32768 0", "step 1 from 2\nA 0 -32769"),
+        ("step 1 from 2\nQ 1 : 0 32768 / 0 0", "step 1 from 2\nQ 1 : 0 0 / 32769 0"),
+        ("step 1 from 2\nQ 1 : -32768 0 / 0 0", "step 1 from 2\nQ 1 : 0 0 / 0 -32769"),
+        ("disturbance 2\nradii 0 0", "disturbance 2\nradii 0 -1"),
+        ("disturbance 2\nradii 1048571 1048571", "disturbance 2\nradii 1048577 0"),
+        ("check 2\nhalfspace 32768 -32768 : 0", "check 2\nhalfspace 0 32769 : 0"),
+        ("check 2\nhalfspace 0 -32768 : 0", "check 2\nhalfspace 0 -32769 : 0"),
+        ("check 2\nhalfspace 1 1 : 1099511627776", "check 2\nhalfspace 1 1 : 1099511627777"),
+        ("check 2\nhalfspace 1 1 : -1099511627776", "check 2\nhalfspace 1 1 : -1099511627777"),
+        ("tied 2\nradii 0 0", "tied 2\nradii 0 -1"),
+        ("tied 2\nidentifiers 65535\nterm 63 : 1 0", "tied 2\nidentifiers 65536\nterm 63 : 1 0"),
+        ("tied 2\nidentifiers 1\nterm 1 : 1 0", "tied 2\nidentifiers 0\nterm 1 : 1 0"),
+        ("tied 2\nidentifiers 1\nterm 1 : 1 0", "tied 2\nidentifiers -1\nterm 1 : 1 0"),
+        ("tied 2\nidentifiers 2\nterm 63 : 1 0", "tied 2\nidentifiers 2\nterm 64 : 1 0"),
+        ("tied 2\nidentifiers 2\nterm 63 : 1 0", "tied 2\nidentifiers 2\nterm 255 : 1 0"),
+    ] {
+        assert_eq!(after_start(good), "end 1", "{good}");
+        assert_eq!(after_start(bad), refused(6), "{bad}");
+    }
+}
+
+#[test]
+fn rules() {
+    for body in [
+        "identifiers 2 1\nterm 1 1 : 1 1",
+        "identifiers 1 1\nterm 1 1 : 1 1",
+        "identifiers 1\nterm 2 : 1 1\nterm 1 : 1 1",
+        "identifiers 1\nterm 1 : 1 1\nterm 1 : 1 1",
+        "identifiers 1 2\nterm 1 0 : 1 1\nterm 0 1 : 1 1",
+        "identifiers 1\nterm 0 : 1 1\nterm 1 : 1 1",
+        "identifiers 1\nterm 1 : 0 0",
+        "generator 0 0",
+        "identifiers 1 2\nterm 1 0 : 1 1",
+        "term : 1 1",
+        "identifiers 1",
+    ] {
+        assert_eq!(after_start(&format!("tied 2\n{body}")), refused(7), "{body}");
+        assert_eq!(last_line(&run_file(&format!("start 2\n{body}"))), "0 refused 7 0", "{body}");
+    }
+    assert_eq!(after_start("tied 2\n"), "end 1", "no factors, terms or generators");
+    assert_eq!(after_start("tied 2\ngenerator 0 1\ngenerator 0 1"), "end 1");
+}
+
+#[test]
+fn spans() {
+    let wide = "centre 0 -1000000\nidentifiers 1\nterm 1 : 0 -40000\ngenerator 0 -8575\nradii 0";
+    assert_eq!(after_start(&format!("independent 2\n{wide} 2")), refused(8));
+    assert_eq!(after_start(&format!("independent 2\n{wide} 1")), refused(10), "the sum is wider");
+    assert_eq!(last_line(&run_file(&format!("start 2\n{wide} 1"))), "end 0");
+    let extreme = "independent 2\ncentre -2147483648 2147483647\ngenerator -2147483648 0\nradii 2147483647 0";
+    assert_eq!(after_start(extreme), refused(8));
+    assert_eq!(after_start("disturbance 2\nradii 1048572 0"), refused(10));
+    assert_eq!(after_start("step 2 from 2\nc 1048576 0\nA 4096 0 / 0 0"), refused(10));
+    assert_eq!(after_start("step 2 from 2\nc 1048576 0"), "end 1");
+}
+
+#[test]
+fn fields_after_the_last_that_may_follow() {
+    let full = run_file("start 1\nrepeat 4096 {\nreduce 40 24\n}");
+    assert_eq!(last_line(&full), "end 4096");
+    for more in [&[0][..], &[1], &[6, 2, 0, 40, 24], &[255, 255, 255, 255]] {
+        let bytes = [full.clone(), more.to_vec()].concat();
+        assert_eq!(last_line(&bytes), format!("4097 refused 12 {}", full.len()));
+    }
+}
+
+/// Each field below has all causes from one place of the order on, so that mending the first cause
+/// uncovers the next.
+#[test]
+fn order_of_refusals() {
+    let eight = "start 1\nidentifiers 1 2 3 4 5 6 7 8\nterm 1 1 1 1 1 1 1 1 : 1048576\n";
+    let place = run_file(eight).len();
+    let sum = |n: u8, identifier: u8, exponent: u8, coefficient: i32, factors: u8, cut: usize, more: usize| {
+        let mut body = vec![n, factors, 1, 0];
+        for k in 0..factors {
+            body.extend([if k == 0 { identifier } else { 20 + k }, 0, 0, 0]);
+        }
+        body.extend(vec![0; 4 * usize::from(n)]);
+        body.extend((0..factors).map(|k| if k == 0 { exponent } else { 1 }));
+        body.extend(coefficient.to_le_bytes().repeat(usize::from(n)));
+        body.extend(vec![0; 4 * usize::from(n) + more]);
+        let mut bytes = run_file(eight);
+        bytes.push(5);
+        bytes.extend((body.len() as u16).to_le_bytes());
+        bytes.extend(&body[..body.len() - cut]);
+        last_line(&bytes)
+    };
+    let refused = |number: u8| format!("1 refused {number} {place}");
+    assert_eq!(sum(7, 0, 64, 0, 13, 1, 1), refused(1));
+    assert_eq!(sum(7, 0, 64, 0, 12, 0, 1), refused(4));
+    assert_eq!(sum(2, 0, 64, 0, 12, 0, 1), refused(3));
+    assert_eq!(sum(2, 0, 64, 0, 12, 0, 0), refused(5));
+    assert_eq!(sum(1, 0, 64, 0, 12, 0, 0), refused(6));
+    assert_eq!(sum(1, 20, 64, 0, 12, 0, 0), refused(6));
+    assert_eq!(sum(1, 30, 1, 1_048_577, 12, 0, 0), refused(7), "identifiers fall");
+    assert_eq!(sum(1, 20, 1, 1_048_577, 12, 0, 0), refused(8));
+    assert_eq!(sum(1, 20, 1, 1_048_576, 12, 0, 0), refused(9));
+    assert_eq!(sum(1, 20, 1, 1_048_576, 4, 0, 0), refused(10));
+    assert_eq!(sum(1, 20, 1, 0, 4, 0, 0), refused(7), "a zero term");
+    assert_eq!(last_line(&[run_file(eight), vec![9]].concat()), refused(2));
+}
