@@ -51,23 +51,16 @@ one k ts r = record { dimension = 1; identifiers = 1 ∷ []; centre = k ∷ []; 
 abbrev scalar : ℤ → ℤ → Step
 scalar a q = record { rows = 1; columns = 1; constant = pos 0 ∷ []; linear = a ∷ []; quadratic = q ∷ [] }
 
--- the term 1·α with A = 2048: 1·α and radius 1
-pub halved : step standardWeights (scalar (pos 2048) (pos 0)) (one (pos 0) (term 1 (pos 1) ∷ []) 0) ≡ one (pos 0) (term 1 (pos 1) ∷ []) 1
-unfolding step rounded raw rawCentre rawLinear rawSquare rawPair pairs remainder inexactAt roundedRadius dot bilinear sumBy uptoBy tab
-    round exact inexact termSizes generatorSizes longer finish dropUnused foldGenerators foldTerms foldHigh dropZeroGenerators
-    dropZeroTerms collectTerms insert collectInto those foldAll foldVector shift growth foldTimes foldSmallest smallest size keepAt order
-    any all even
-halved = refl
-
--- exponents 32 + 32 fold as even: 4096·α³² squared is 4096·α⁶⁴, which becomes centre 2048 and radius 2048
-pub squared :
-    step standardWeights (scalar (pos 0) (pos 4096)) (one (pos 0) (term 32 (pos 4096) ∷ []) 0)
-    ≡ record { dimension = 1; identifiers = []; centre = pos 2048 ∷ []; terms = []; generators = []; radii = 2048 ∷ [] }
-unfolding step rounded raw rawCentre rawLinear rawSquare rawPair pairs remainder inexactAt roundedRadius dot bilinear sumBy uptoBy tab
-    round exact inexact termSizes generatorSizes longer finish dropUnused foldGenerators foldTerms foldHigh dropZeroGenerators
-    dropZeroTerms collectTerms insert collectInto those foldAll foldVector shift growth foldTimes foldSmallest smallest size keepAt order
-    any all even half halfSize
-squared = refl
+-- the term 1·α with A = 2048: 1·α and radius 1; exponents 32 + 32 fold as even: 4096·α³² squared is 4096·α⁶⁴, centre 2048 and radius 2048
+pub stepping :
+    (step standardWeights (scalar (pos 2048) (pos 0)) (one (pos 0) (term 1 (pos 1) ∷ []) 0) ≡ one (pos 0) (term 1 (pos 1) ∷ []) 1)
+    × (step standardWeights (scalar (pos 0) (pos 4096)) (one (pos 0) (term 32 (pos 4096) ∷ []) 0)
+    ≡ record { dimension = 1; identifiers = []; centre = pos 2048 ∷ []; terms = []; generators = []; radii = 2048 ∷ [] })
+unfolding step rounded raw rawCentre rawLinear rawSquare rawPair pairs remainder inexactAt roundedRadius dot bilinear sumBy uptoBy tab round
+    exact inexact termSizes generatorSizes longer finish dropUnused foldGenerators foldTerms foldHigh dropZeroGenerators dropZeroTerms
+    collectTerms insert collectInto those foldAll foldVector shift growth foldTimes foldSmallest smallest size keepAt order any all even
+    half halfSize
+stepping = (refl, refl)
 
 -- a start field with this centre, as bytes, and coefficient 1
 abbrev started : List ℕ → List ℕ

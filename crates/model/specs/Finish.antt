@@ -88,13 +88,14 @@ pub record Taken (A : Type 0) : Type 0 where
   pub out : A
   pub rest : List A
 
+-- of a and what was taken from l, the smaller; of equals what was taken, which stands later
+abbrev pub smaller : {A : Type 0} → (A → ℕ) → A → List A → Taken A → Taken A
+smaller f a l t = cond (leb (f (t .out)) (f a)) (record { out = t .out; rest = a ∷ t .rest }) (record { out = a; rest = l })
+
 -- the smallest of a ∷ l, of equals the last, and the others
 unfoldable pub smallest : {A : Type 0} → (A → ℕ) → A → List A → Taken A
 smallest f a [] = record { out = a; rest = [] }
-smallest f a (b ∷ l) =
-    cond (leb (f (smallest f b l .out)) (f a))
-    (record { out = smallest f b l .out; rest = a ∷ smallest f b l .rest })
-    (record { out = a; rest = b ∷ l })
+smallest f a (b ∷ l) = smaller f a (b ∷ l) (smallest f b l)
 
 unfoldable pub foldSmallest : {A : Type 0} → (A → ℕ) → (A → Core → Core) → Core → List A → Folded A
 foldSmallest f fold k [] = record { core = k; kept = [] }

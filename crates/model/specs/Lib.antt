@@ -7,6 +7,7 @@
 --     Bytes, Body  numbers in a run file, and what the body of a field says
 --     Field        the kinds of field: what each asks and gives
 --     Run          the state, the refusals in their order, one field, a list of fields, a whole input
+--     Library      single operations on records: their refusals in order
 --     Pairs        the order of a step's pairs
 --     Points       the points of a set at given factor values
 --     Motion       what a motion is, and what is claimed of every motion (demand 3)
@@ -20,6 +21,7 @@ pub mod Bytes
 pub mod Body
 pub mod Field
 pub mod Run
+pub mod Library
 pub mod Pairs
 pub mod Points
 pub mod Motion

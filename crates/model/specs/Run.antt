@@ -53,7 +53,7 @@ meant st f = meaning (kindOf (tag f)) (body f) (st .next) (current st)
 
 -- ---- refusals
 -- a cause, with its number
-infix 40 _if_
+infix 3 _if_
 pub record Cause : Type 0 where
   pub number : ℕ
   pub holds : Bool

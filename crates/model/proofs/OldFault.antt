@@ -1,0 +1,127 @@
+-- The fault that tore four drivers: where the next identifier does not rise, two independent sums share a factor, and the claim of demand 3
+-- is false. A start set 4096·α, an independent sum with 4096·α and one with -4096·α: the last two cancel, and a motion at 12,288 is left
+-- outside the box -4096 .. 4096.
+use mathlib.Core.Path.{_≡_, refl, sym, _∙_, ap, ap₂, subst}
+use mathlib.Core.List.{List, [], _∷_, _++_}
+use mathlib.Core.Bool.{Bool, true, false, cond}
+use Prim.Native.Nat.{ℕ, zero, suc, _+_, _<_}
+use native.Mathlib.Omega.{arith}
+use lib.Dec.{T, eqb, lit<}
+use lib.ListN.{length, getD}
+use lib.IntN.{ℤ, pos, negsuc, negℤ}
+use lib.Signed.{_≤ℤ_}
+use Rattle.whole.specs.Half.{half, halfSize}
+use Rattle.whole.specs.Sum.{sumBy, uptoBy}
+use Rattle.whole.specs.Tab.{tab, any, all}
+use Rattle.rational.specs.Rational.{ℚ, _+ℚ_, _*ℚ_, negℚ, ι, 0ℚ, 1ℚ, _≤ℚ_}
+use Rattle.rational.specs.Ring.{+ℚ-zero, zero-+ℚ, *ℚ-one, one-*ℚ, *ℚ-negℚ}
+use Rattle.rational.specs.Pinned.{ι-+, ι-neg, ι-≤}
+use Rattle.rational.specs.Sign.{NonNeg-ι}
+use Rattle.rational.specs.Order.{NonNeg-≤}
+use Rattle.rational.specs.Bounds.{Within, within-one, within-neg, within-NonNeg}
+use Rattle.rational.specs.Power.{power, even}
+use Rattle.rational.specs.Sum.{sum}
+use Rattle.model.specs.Limits.{firstFresh}
+use Rattle.model.specs.Set.{Term, Zonotope, termSizes, generatorSizes, span, longer, at}
+use Rattle.model.specs.Valid.{order, rises, badRange, badOrder, tooWide}
+use Rattle.model.specs.Finish.{insert, collectInto, those, shift, growth, foldVector, foldAll, size, smallest, foldSmallest, foldTimes}
+use Rattle.model.specs.Finish.{keepAt, collectTerms, dropZeroTerms, dropZeroGenerators, foldHigh, foldTerms, foldGenerators}
+use Rattle.model.specs.Finish.{dropUnused, finish}
+use Rattle.model.specs.Operations.{insertIdentifier, union, align, joined, tiedSum, renumbered, independentSum, least, lowEnd, highEnd, box, Box}
+use Rattle.model.specs.Bytes.{number, word, long}
+use Rattle.model.specs.Body.{givenSet}
+use Rattle.model.specs.Field.{meaning, inside}
+use Rattle.model.specs.Run.{State, begin, kindOf, firstOf, misplaced, cut, causes, accepted, after, outcome}
+use Rattle.model.specs.Points.{Vector, monomial, termsAt, generatorsAt, valueAt}
+use Rattle.model.specs.Motion.{Picks, Allowed, Moment, beginning, offsetLimit, bodyPoint, move, valuesAfter, follow, InBox, Kept}
+
+-- ---- the old edition: every field is given the next identifier with which the run began
+abbrev forgotten : Moment → Moment
+forgotten now = record {
+  state = record { set = now .state .set; next = firstFresh; count = now .state .count; over = now .state .over };
+  values = now .values;
+  position = now .position;
+}
+
+abbrev OldAlways : Picks → ℕ → Moment → List (List ℕ) → Type 0
+OldAlways p m now [] = Unit {0}
+OldAlways p m now (f ∷ fs) =
+    (T (accepted (forgotten now .state) f) → Kept (forgotten now .state) f (follow p m (forgotten now) f))
+    × OldAlways p (suc m) (follow p m (forgotten now) f) fs
+
+-- ---- the run: tag, length 21, n = p = h = 1, q = 0, identifier 1, centre 0, exponent 1, coefficient, radius 0
+abbrev field : ℕ → List ℕ → List ℕ
+field tag g = tag ∷ 21 ∷ 0 ∷ 1 ∷ 1 ∷ 1 ∷ 0 ∷ 1 ∷ 0 ∷ 0 ∷ 0 ∷ 0 ∷ 0 ∷ 0 ∷ 0 ∷ 1 ∷ (g ++ (0 ∷ 0 ∷ 0 ∷ 0 ∷ []))
+
+abbrev plus : List ℕ
+plus = 0 ∷ 16 ∷ 0 ∷ 0 ∷ []
+
+abbrev minus : List ℕ
+minus = 0 ∷ 240 ∷ 255 ∷ 255 ∷ []
+
+abbrev fields : List (List ℕ)
+fields = field 1 plus ∷ field 4 plus ∷ field 4 minus ∷ []
+
+-- ---- the motion: every factor is 1, but -1 in the second sum
+abbrev sign : ℕ → ℚ
+sign zero = 1ℚ
+sign (suc zero) = 1ℚ
+sign (suc (suc m)) = negℚ 1ℚ
+
+abbrev picks : Picks
+picks = record { values = λ k. 1ℚ; own = λ m k. sign m; numbers = λ m j. 0ℚ; offsets = λ m i. 0ℚ }
+
+zero-within : (n : ℕ) → Within 0ℚ (ι (pos n))
+zero-within n = within-NonNeg (NonNeg-ι 0) (NonNeg-≤ (NonNeg-ι n))
+
+sign-within : (m : ℕ) → Within (sign m) 1ℚ
+sign-within zero = within-one
+sign-within (suc zero) = within-one
+sign-within (suc (suc m)) = within-neg within-one
+
+allowed : Allowed picks fields
+allowed = record { values = λ k. within-one; own = λ m k. sign-within m; numbers = λ m j. zero-within 1; offsets = λ m i. zero-within _ }
+
+-- ---- where it is after the three fields, and the box that the old edition answers
+abbrev first : Moment
+first = follow picks 0 (forgotten (beginning picks)) (field 1 plus)
+
+abbrev second : Moment
+second = follow picks 1 (forgotten first) (field 4 plus)
+
+abbrev third : Moment
+third = follow picks 2 (forgotten second) (field 4 minus)
+
+abbrev narrow : Box
+narrow = record { lows = negsuc 4095 ∷ []; highs = pos 4096 ∷ [] }
+
+-- the body's point for a coefficient g at the factor value v
+abbrev bodyAt : ℤ → ℚ → ℚ
+bodyAt g v = ι (pos 0) +ℚ (ι g *ℚ (v *ℚ 1ℚ *ℚ 1ℚ) +ℚ 0ℚ) +ℚ 0ℚ +ℚ 0ℚ
+
+computed :
+    T (accepted (forgotten second .state) (field 4 minus))
+    × (outcome 0 (forgotten second .state) (field 4 minus) ≡ inside narrow)
+    × (third .position 0 ≡ bodyAt (pos 4096) 1ℚ +ℚ bodyAt (pos 4096) 1ℚ +ℚ bodyAt (negsuc 4095) (negℚ 1ℚ))
+unfolding follow accepted after outcome causes firstOf misplaced cut kindOf meaning number word givenSet badRange badOrder tooWide span
+    termSizes generatorSizes rises order sumBy uptoBy tab any all independentSum tiedSum renumbered joined union insertIdentifier align
+    finish dropUnused foldGenerators foldTerms foldHigh dropZeroGenerators dropZeroTerms collectTerms insert collectInto those foldAll
+    foldVector shift growth foldTimes foldSmallest smallest size keepAt longer even half halfSize box lowEnd highEnd least
+    move valueAt termsAt generatorsAt monomial power sum
+computed = (tt, refl, refl)
+
+body-point : (g : ℤ) (v : ℚ) → bodyAt g v ≡ ι g *ℚ v
+body-point g v = simp (+ℚ-zero, zero-+ℚ, *ℚ-one)
+
+position : third .position 0 ≡ ι (pos 12288)
+position =
+    computed .2
+    ∙ ap₂ _+ℚ_ (ap₂ _+ℚ_ (body-point (pos 4096) 1ℚ) (body-point (pos 4096) 1ℚ)) (body-point (negsuc 4095) (negℚ 1ℚ))
+    ∙ simp (*ℚ-negℚ, *ℚ-one, ← ι-neg, ← ι-+)
+
+-- the claim fails for the old edition
+pub old-edition-loses : ¬ ((fields : List (List ℕ)) (p : Picks) → Allowed p fields → OldAlways p 0 (beginning p) fields)
+old-edition-loses claim =
+    let kept = claim fields picks allowed .1 .1 .0 (computed .0) in
+    let le = subst (_≤ℚ ι (pos 4096)) position (kept .in-box 0 narrow (computed .1) .below 0 (lit< tt)) in
+    ι-≤ (pos 12288) (pos 4096) .0 le .le

@@ -1,0 +1,99 @@
+-- Single operations on records: which refusal a call gives, by the causes in their order, and what it gives where none holds.
+-- A refusal gives the first set back as it came.
+use mathlib.Core.List.{List, [], _∷_, _++_}
+use mathlib.Core.Option.{Option, none, some}
+use mathlib.Core.Bool.{Bool, true, false, not, _||_}
+use Prim.Native.Nat.{ℕ, _*_, _+_}
+use lib.Dec.{ltb, eqb}
+use lib.ListN.{length}
+use lib.IntN.{ℤ, natAbs}
+use Rattle.whole.specs.Tab.{any}
+use Rattle.model.specs.Limits.{recordIdentifiers, firstFresh, lastFresh, maxTerms, maxGenerators, maxHalfspaces, maxEntry, maxConstant}
+use Rattle.model.specs.Limits.{maxDisturbance, maxBound, standardWeights}
+use Rattle.model.specs.Set.{Zonotope}
+use Rattle.model.specs.Valid.{badCounts, badRange, badOrder, tooWide}
+use Rattle.model.specs.Step as Step
+use Rattle.model.specs.Operations.{tiedSum, independentSum, renumbered, disturb, reduce, Box, box, Halfspace, safe}
+use Rattle.model.specs.Field.{badDimension, beyond, differs, tooMany}
+use Rattle.model.specs.Run.{Cause, _if_, firstOf}
+
+-- a record as it is read: its set, and whether a place that the counts leave unused isn't 0
+pub record Given : Type 0 where
+  pub set : Zonotope
+  pub spare : Bool
+
+-- ---- a set that is given: 4, 6, 7, 8
+abbrev pub ofFirst : Given → List Cause
+ofFirst g = (4 if badCounts (g .set)) ∷ (6 if badRange recordIdentifiers (g .set)) ∷ (7 if g .spare || badOrder (g .set)) ∷ (8 if tooWide (g .set)) ∷ []
+
+-- a second set: 5 stands between 4 and 6
+abbrev pub ofSecond : Given → Given → List Cause
+ofSecond first g =
+    (4 if badCounts (g .set))
+    ∷ (5 if differs (g .set .dimension) (first .set .dimension))
+    ∷ (6 if badRange recordIdentifiers (g .set))
+    ∷ (7 if g .spare || badOrder (g .set))
+    ∷ (8 if tooWide (g .set))
+    ∷ []
+
+-- ---- the calls: their causes, and what they give
+unfoldable pub examine : Given → Option ℕ
+examine g = firstOf (ofFirst g)
+
+unfoldable pub tiedRefusal : Given → Given → Option ℕ
+tiedRefusal g h =
+    firstOf (ofFirst g ++ ofSecond g h
+    ++ ((9 if tooMany (g .set) (h .set)) ∷ (10 if tooWide (tiedSum standardWeights (g .set) (h .set))) ∷ []))
+
+-- 11: the next identifier is out of its range or not above the first set's identifiers
+abbrev pub badNext : ℕ → Zonotope → Bool
+badNext next s = ltb next firstFresh || ltb lastFresh next || any (λ k. not (ltb k next)) (s .identifiers)
+
+unfoldable pub independentRefusal : ℕ → Given → Given → Option ℕ
+independentRefusal next g h =
+    firstOf (ofFirst g ++ ofSecond g h
+    ++ ((11 if badNext next (g .set))
+    ∷ (9 if tooMany (g .set) (renumbered next (h .set)))
+    ∷ (10 if tooWide (independentSum standardWeights next (g .set) (h .set)))
+    ∷ []))
+
+-- radii for n coordinates
+unfoldable pub disturbRefusal : ℕ → List ℕ → Given → Option ℕ
+disturbRefusal n radii g =
+    firstOf (ofFirst g
+    ++ ((4 if badDimension n)
+    ∷ (3 if differs (length radii) n)
+    ∷ (5 if differs n (g .set .dimension))
+    ∷ (6 if any (ltb maxDisturbance) radii)
+    ∷ (10 if tooWide (disturb radii (g .set)))
+    ∷ []))
+
+unfoldable pub reduceRefusal : ℕ → ℕ → Given → Option ℕ
+reduceRefusal termLimit generatorLimit g =
+    firstOf (ofFirst g
+    ++ ((4 if ltb maxTerms termLimit || ltb maxGenerators generatorLimit)
+    ∷ (10 if tooWide (reduce standardWeights termLimit generatorLimit (g .set)))
+    ∷ []))
+
+-- `count` halfspaces in n coordinates: normals one after the other, and their bounds
+unfoldable pub checkRefusal : ℕ → ℕ → List ℤ → List ℤ → Given → Option ℕ
+checkRefusal n count normals bounds g =
+    firstOf (ofFirst g
+    ++ ((4 if badDimension n || eqb count 0 || ltb maxHalfspaces count)
+    ∷ (3 if differs (length normals) (count * n) || differs (length bounds) count)
+    ∷ (5 if differs n (g .set .dimension))
+    ∷ (6 if any (beyond maxEntry) normals || any (beyond maxBound) bounds)
+    ∷ []))
+
+-- a step: 13 for a work slice that is too short comes before everything
+unfoldable pub stepRefusal : Bool → Step.Step → Given → Option ℕ
+stepRefusal short p g =
+    firstOf ((13 if short) ∷ ofFirst g
+    ++ ((4 if badDimension (p .rows) || badDimension (p .columns))
+    ∷ (3 if differs (length (p .constant)) (p .rows)
+        || differs (length (p .linear)) (p .rows * p .columns)
+        || differs (length (p .quadratic)) (p .rows * p .columns * p .columns))
+    ∷ (5 if differs (p .columns) (g .set .dimension))
+    ∷ (6 if any (beyond maxConstant) (p .constant) || any (beyond maxEntry) (p .linear) || any (beyond maxEntry) (p .quadratic))
+    ∷ (10 if tooWide (Step.step standardWeights p (g .set)))
+    ∷ []))
