@@ -1,3 +1,15 @@
+-- What is proved of the definitions.
+--     Marked, Listing                      document 01's marked table, its listing and some refusals
+--     Order, Collect, Merge                the order of terms; collecting doesn't depend on the order in which terms come
+--     FoldOrder, Select, Level, FirstBySize   folding the smallest one at a time is keeping the first by size, then by place
+--     Parts, Covers, Alike                 points by parts; when a set covers another, when both have the same points
+--     CollectCovers .. FinishCovers        every stage of finishing keeps every point
+--     Aligned, Values, SumPoints           sums and disturbances keep every point
+--     FoldsNothing, Shares, Exact          where nothing is folded, sums have exactly the true points (demand 2)
+--     Forms .. StepPoint                   the step keeps every point
+--     Close                                a step from a set without independent parts is close to the true image (demand 2)
+--     Ends, BoxPoint, SafePoint            the box holds every point; a region that the check calls safe holds none
+--     OldFault                             with a next identifier that doesn't rise, demand 3 is false
 pub mod Marked
 pub mod Listing
 pub mod Vectors
@@ -8,9 +20,31 @@ pub mod FoldOrder
 pub mod Select
 pub mod Level
 pub mod FirstBySize
+pub mod Choice
 pub mod Parts
 pub mod Covers
-pub mod Places
+pub mod Alike
+pub mod CollectCovers
+pub mod ZeroGenerators
+pub mod FoldCovers
+pub mod FoldStages
+pub mod UnusedCovers
+pub mod FinishCovers
+pub mod Aligned
+pub mod Values
+pub mod SumPoints
+pub mod FoldsNothing
+pub mod Shares
+pub mod Exact
+pub mod Forms
+pub mod WholeForms
+pub mod PartMaps
+pub mod Raw
+pub mod Remainder
+pub mod RawPoint
+pub mod Rounded
+pub mod StepPoint
+pub mod Close
 pub mod Ends
 pub mod BoxPoint
 pub mod SafePoint

@@ -22,7 +22,7 @@ use Rattle.model.specs.Operations.{Halfspace, lowAlong, safe}
 use Rattle.model.specs.Points.{Vector, Point, InRange}
 use Rattle.model.specs.Motion.{places, Unsafe}
 use Rattle.model.proofs.Parts.{Part, partsOf, near-parts, spread, comes}
-use Rattle.model.proofs.Places.{All-places, ι-upto, ι-uptoℕ}
+use Rattle.model.proofs.WholeForms.{All-places, ι-upto, ι-uptoℕ}
 use Rattle.model.proofs.Ends.{total, low-holds}
 
 -- a·x over the first n coordinates
