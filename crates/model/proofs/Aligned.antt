@@ -46,7 +46,7 @@ found-refl [] = all-found []
 found-refl (k ∷ ks) = here (found-refl ks)
 
 -- a fact of an inserted identifier, by where it goes
-by-place : (P : List ℕ → Type 0) (k m : ℕ) (ms : List ℕ) → (k < m → P (k ∷ (m ∷ ms))) → (m < k → P (m ∷ insertIdentifier k ms))
+pub by-place : (P : List ℕ → Type 0) (k m : ℕ) (ms : List ℕ) → (k < m → P (k ∷ (m ∷ ms))) → (m < k → P (m ∷ insertIdentifier k ms))
     → (k ≡ m → P (m ∷ ms)) → P (insertIdentifier k (m ∷ ms))
 unfolding insertIdentifier
 by-place P k m ms f g h = by-test P (ltb k m) (λ t. f (ltb→lt k m t))

@@ -16,7 +16,9 @@ pub box-point : {s : Zonotope} {α x : Vector} → InRange α → Point s α x �
 unfolding box spread
 box-point {s} {α} {x} w p = record {
   above = λ i h. let d = subst (i <_) (length-tab (s .dimension) (low s)) h in
-      subst (λ z. ι z ≤ℚ x i) (sym (getD-tab (s .dimension) (low s) (pos 0) i d)) (low-holds (λ v. at v i) (radius s i) w p (near-parts p i d));
+      subst (λ z. ι z ≤ℚ x i) (sym (getD-tab (s .dimension) (low s) (pos 0) i d))
+      (low-holds (λ v. at v i) (radius s i) w p (near-parts p i d));
   below = λ i h. let d = subst (i <_) (length-tab (s .dimension) (high s)) h in
-      subst (λ z. x i ≤ℚ ι z) (sym (getD-tab (s .dimension) (high s) (pos 0) i d)) (high-holds (λ v. at v i) (radius s i) w p (near-parts p i d));
+      subst (λ z. x i ≤ℚ ι z) (sym (getD-tab (s .dimension) (high s) (pos 0) i d))
+      (high-holds (λ v. at v i) (radius s i) w p (near-parts p i d));
 }

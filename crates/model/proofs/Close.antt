@@ -15,11 +15,13 @@ use Rattle.rational.specs.Sign.{NonNeg-ι}
 use Rattle.rational.specs.Bounds.{within-neg}
 use Rattle.rational.specs.Near.{Near, near-refl, near-trans, near-as}
 use Rattle.rational.specs.Sum.{none}
+use Rattle.model.specs.Limits.{maxTerms, maxGenerators}
 use Rattle.model.specs.Set.{Zonotope, at, radius, termSizes, generatorSizes}
 use Rattle.model.specs.Step.{Step, quadraticAt, slope, independent, remainder, rawLinear, raw, inexactAt, roundedRadius, rounded}
 use Rattle.model.specs.Step.{step}
 use Rattle.model.specs.Points.{Vector, valueAt, Point, InRange}
 use Rattle.model.specs.Motion.{image}
+use Rattle.model.proofs.FoldsNothing.{FoldsNothing, finish-exact}
 use Rattle.model.proofs.WholeForms.{ι-+ℕ, ι-*ℕ}
 use Rattle.model.proofs.RawPoint.{raw-image}
 use Rattle.model.proofs.Rounded.{round-value, near-times, unscale, ≤-whole}
@@ -109,8 +111,9 @@ module _ (p : Step) (s : Zonotope) (no-generators : s .generators ≡ []) (no-ra
       (λ j _. near-as (near-refl (valueAt s α [] j)) refl (ap (λ m. ι (pos m)) (sym (no-radii j)))))
       pt i h (getD-tab (p .rows) (remainder p s) 0 i h ∙ remainder-zero i)
 
-  -- the same of the finished result, where finishing leaves the points
-  pub step-close : (weights : List ℕ) {α z : Vector} → InRange α
-      → ((y : Vector) → Point (step weights p s) α y → Point (rounded (raw p s)) α y) → Point (step weights p s) α z → (i : ℕ) → i < p .rows
+  -- Closeness (demand 2): the same of a step that folds nothing
+  pub step-close : (weights : List ℕ) → FoldsNothing maxTerms maxGenerators (rounded (raw p s)) → {α z : Vector} → InRange α
+      → Point (step weights p s) α z → (i : ℕ) → i < p .rows
       → Near (z i) (image p (valueAt s α []) i) (ι (pos (inexactAt (raw p s) i)) +ℚ ½)
-  step-close weights {z = z} w same pt i h = close w (same z pt) i h
+  unfolding step
+  step-close weights n w pt i h = close w (finish-exact weights maxTerms maxGenerators n .1 pt) i h

@@ -68,11 +68,11 @@ module _ (value : List ℤ → ℤ) where
       let T = total (termParts α (s .identifiers) (s .terms)) in
       let G = total (generatorParts (s .generators) (p .numbers)) in
       let split : y ≡ ι c +ℚ T +ℚ (G +ℚ n .off) =
-          n .is ∙ ap (λ z. ι c +ℚ z +ℚ n .off) (sum-++ (λ p. ι (value (p .vector)) *ℚ p .times) (termParts α (s .identifiers) (s .terms)) _)
-          ∙ ap (_+ℚ n .off) (sym (+ℚ-assoc (ι c) T G)) ∙ +ℚ-assoc (ι c +ℚ T) G (n .off) in
+      n .is ∙ ap (λ z. ι c +ℚ z +ℚ n .off) (sum-++ (λ p. ι (value (p .vector)) *ℚ p .times) (termParts α (s .identifiers) (s .terms)) _)
+      ∙ ap (_+ℚ n .off) (sym (+ℚ-assoc (ι c) T G)) ∙ +ℚ-assoc (ι c +ℚ T) G (n .off) in
       let low : ι (c +ℤ t -ℤ pos (g + wide)) ≡ ι c +ℚ ι t +ℚ (negℚ (ι (pos g)) +ℚ negℚ (ι (pos wide))) =
-          ι-+ (c +ℤ t) (negℤ (pos (g + wide)))
-          ∙ ap₂ _+ℚ_ (ι-+ c t) (ι-neg (pos (g + wide)) ∙ ap negℚ (ι-+ (pos g) (pos wide)) ∙ negℚ-+ (ι (pos g)) (ι (pos wide))) in
+      ι-+ (c +ℤ t) (negℤ (pos (g + wide)))
+      ∙ ap₂ _+ℚ_ (ι-+ c t) (ι-neg (pos (g + wide)) ∙ ap negℚ (ι-+ (pos g) (pos wide)) ∙ negℚ-+ (ι (pos g)) (ι (pos wide))) in
       subst₂ _≤ℚ_ (sym low) (sym split)
       (≤ℚ-+ (≤ℚ-+ (≤ℚ-refl (ι c)) (terms-low w (s .identifiers) (s .terms)))
       (≤ℚ-+ (generators-within (s .generators) (p .in-range) .lo) (n .small .lo)))
@@ -86,7 +86,8 @@ sum-neg f (a ∷ l) = rw (sum-neg f l) (simp as-ℕ (omega arith))
 high-low : (value : List ℤ → ℤ) (wide : ℕ) (s : Zonotope) → highEnd value wide s ≡ negℤ (lowEnd (λ v. negℤ (value v)) wide s)
 unfolding highEnd lowEnd
 high-low value wide s =
-    ap₂ (λ t m. value (s .centre) +ℤ t +ℤ pos (m + wide)) (sum-neg (λ t. least (allEven (t .exponents)) (negℤ (value (t .coefficients)))) (s .terms))
+    ap₂ (λ t m. value (s .centre) +ℤ t +ℤ pos (m + wide)) (sum-neg (λ t. least (allEven (t .exponents)) (negℤ (value (t .coefficients))))
+    (s .terms))
     (ap (λ (f : List ℤ → ℕ). sumℕ f (s .generators)) (fun-ext λ g. sym (abs-neg (value g))))
     ∙ turn (value (s .centre)) _ _
   where
@@ -104,6 +105,6 @@ pub high-holds : (value : List ℤ → ℤ) (wide : ℕ) {s : Zonotope} {α x : 
     → Near y (ι (value (s .centre)) +ℚ total value (partsOf s α (p .numbers))) (ι (pos wide)) → y ≤ℚ ι (highEnd value wide s)
 high-holds value wide {s} {α} {x} {y} w p n =
     let opposite = near-as (near-neg n)
-        (negℚ-+ _ _ ∙ ap₂ _+ℚ_ (sym (ι-neg (value (s .centre)))) (sym (total-neg value (partsOf s α (p .numbers))))) refl in
+    (negℚ-+ _ _ ∙ ap₂ _+ℚ_ (sym (ι-neg (value (s .centre)))) (sym (total-neg value (partsOf s α (p .numbers))))) refl in
     subst₂ _≤ℚ_ (negℚ-negℚ y) (sym (ι-neg (lowEnd (λ v. negℤ (value v)) wide s)) ∙ ap ι (sym (high-low value wide s)))
     (≤ℚ-neg (low-holds (λ v. negℤ (value v)) wide w p opposite))

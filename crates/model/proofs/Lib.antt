@@ -2,6 +2,10 @@
 --     Marked, Listing                      document 01's marked table, its listing and some refusals
 --     Order, Collect, Merge                the order of terms; collecting doesn't depend on the order in which terms come
 --     FoldOrder, Select, Level, FirstBySize   folding the smallest one at a time is keeping the first by size, then by place
+--     Lists, Tests, Shape                  rising lists; the tests of validity as facts, and back
+--     Selected .. Finished, FixedPoint     a finished set is valid but for its span; a valid set is a fixed point of finishing
+--     StepShape, Union, SumShape, Held     every operation keeps what a run holds
+--     Accepted, ByKind, Sound              what an accepted field passed and leaves; the invariant of a run
 --     Parts, Covers, Alike                 points by parts; when a set covers another, when both have the same points
 --     CollectCovers .. FinishCovers        every stage of finishing keeps every point
 --     Aligned, Values, SumPoints           sums and disturbances keep every point
@@ -9,6 +13,7 @@
 --     Forms .. StepPoint                   the step keeps every point
 --     Close                                a step from a set without independent parts is close to the true image (demand 2)
 --     Ends, BoxPoint, SafePoint            the box holds every point; a region that the check calls safe holds none
+--     Moves, Enclosed                      each kind of field keeps every motion; demand 3, entire
 --     OldFault                             with a next identifier that doesn't rise, demand 3 is false
 pub mod Marked
 pub mod Listing
@@ -20,6 +25,22 @@ pub mod FoldOrder
 pub mod Select
 pub mod Level
 pub mod FirstBySize
+pub mod Lists
+pub mod Tests
+pub mod Shape
+pub mod Selected
+pub mod Collected
+pub mod Unused
+pub mod Stages
+pub mod Finished
+pub mod FixedPoint
+pub mod StepShape
+pub mod Union
+pub mod SumShape
+pub mod Held
+pub mod Accepted
+pub mod ByKind
+pub mod Sound
 pub mod Choice
 pub mod Parts
 pub mod Covers
@@ -48,4 +69,6 @@ pub mod Close
 pub mod Ends
 pub mod BoxPoint
 pub mod SafePoint
+pub mod Moves
+pub mod Enclosed
 pub mod OldFault

@@ -12,7 +12,8 @@ use Rattle.whole.specs.Tab.{tab, any, all}
 use Rattle.rational.specs.Power.{even}
 use Rattle.model.specs.Set.{termSizes, generatorSizes, span, longer}
 use Rattle.model.specs.Valid.{order, rises, badRange, badOrder, tooWide}
-use Rattle.model.specs.Finish.{insert, collectInto, those, shift, growth, foldVector, foldAll, size, smallest, foldSmallest, foldTimes}
+use Rattle.model.specs.Finish.{insert, collectInto, those, shift, growth, foldVector, foldAll, size, smallest, foldSmallest}
+use Rattle.model.specs.Finish.{foldTimes}
 use Rattle.model.specs.Finish.{keepAt, collectTerms, dropZeroTerms, dropZeroGenerators, foldHigh, foldTerms, foldGenerators}
 use Rattle.model.specs.Finish.{dropUnused, finish}
 use Rattle.model.specs.Step.{dot, bilinear, rawCentre, rawLinear, rawSquare, rawPair, pairs, remainder, raw, inexactAt}
@@ -54,7 +55,8 @@ answered input = answers 0 begin (fields input)
 pub listing :
     (answered (beginning ++ checked below ++ (5 ∷ body))
     ≡ line 0 (negsuc 4095) (pos 4096) ∷ line 1 (negsuc 4095) (pos 8192) ∷ said 2 (verdict true) ∷ line 3 (pos 0) (pos 4096) ∷ [])
-    × (answered (beginning ++ checked equal) ≡ line 0 (negsuc 4095) (pos 4096) ∷ line 1 (negsuc 4095) (pos 8192) ∷ said 2 (verdict false) ∷ [])
+    × (answered (beginning ++ checked equal) ≡ line 0 (negsuc 4095) (pos 4096) ∷ line 1 (negsuc 4095) (pos 8192) ∷ said 2 (verdict false)
+    ∷ [])
     × (answered (beginning ++ checked below ++ (4 ∷ body))
     ≡ line 0 (negsuc 4095) (pos 4096) ∷ line 1 (negsuc 4095) (pos 8192) ∷ said 2 (verdict true) ∷ line 3 (negsuc 8191) (pos 12288) ∷ [])
 unfolding answers outcome after causes firstOf misplaced cut kindOf fields fieldsWithin meaning number word long givenSet givenStep
@@ -72,5 +74,6 @@ pub refusals :
     × (answered (1 ∷ []) ≡ said 0 (refused 1 0) ∷ [])
     × (answered ((1 ∷ body) ++ (8 ∷ [])) ≡ line 0 (negsuc 4095) (pos 4096) ∷ said 1 (refused 2 24) ∷ [])
 unfolding answers outcome after causes firstOf misplaced cut kindOf fields fieldsWithin meaning number word long givenSet givenStep
-    givenHalfspaces badRange badOrder tooWide span termSizes generatorSizes rises order sumBy uptoBy tab any all box lowEnd highEnd least even
+    givenHalfspaces badRange badOrder tooWide span termSizes generatorSizes rises order sumBy uptoBy tab any all box lowEnd highEnd least
+    even
 refusals = (refl, refl, refl, refl)

@@ -24,10 +24,12 @@ use Rattle.rational.specs.Sum.{sum}
 use Rattle.model.specs.Limits.{firstFresh}
 use Rattle.model.specs.Set.{Term, Zonotope, termSizes, generatorSizes, span, longer, at}
 use Rattle.model.specs.Valid.{order, rises, badRange, badOrder, tooWide}
-use Rattle.model.specs.Finish.{insert, collectInto, those, shift, growth, foldVector, foldAll, size, smallest, foldSmallest, foldTimes}
+use Rattle.model.specs.Finish.{insert, collectInto, those, shift, growth, foldVector, foldAll, size, smallest, foldSmallest}
+use Rattle.model.specs.Finish.{foldTimes}
 use Rattle.model.specs.Finish.{keepAt, collectTerms, dropZeroTerms, dropZeroGenerators, foldHigh, foldTerms, foldGenerators}
 use Rattle.model.specs.Finish.{dropUnused, finish}
-use Rattle.model.specs.Operations.{insertIdentifier, union, align, joined, tiedSum, renumbered, independentSum, least, lowEnd, highEnd, box, Box}
+use Rattle.model.specs.Operations.{insertIdentifier, union, align, joined, tiedSum, renumbered, independentSum, least, lowEnd}
+use Rattle.model.specs.Operations.{highEnd, box, Box}
 use Rattle.model.specs.Bytes.{number, word, long}
 use Rattle.model.specs.Body.{givenSet}
 use Rattle.model.specs.Field.{meaning, inside}

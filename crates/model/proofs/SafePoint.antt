@@ -57,10 +57,16 @@ along-near a {s} {α} {x} p =
     (sum-cong _ _ (places n) (λ j. *ℚ-+ℚ (ι (at a j)) (ι (at (s .centre) j)) (spread ps j))
     ∙ sum-+ (λ j. ι (at a j) *ℚ ι (at (s .centre) j)) (λ j. ι (at a j) *ℚ spread ps j) (places n)
     ∙ ap₂ _+ℚ_ (along-whole a n (s .centre)) (along-parts a n ps))
-    (sum-cong _ _ (places n) (λ j. sym (ι-* (pos (natAbs (at a j))) (pos (radius s j)))) ∙ sym (ι-uptoℕ (λ j. natAbs (at a j) * radius s j) n))
+    (sum-cong _ _ (places n) (λ j. sym (ι-* (pos (natAbs (at a j))) (pos (radius s j))))
+    ∙ sym (ι-uptoℕ (λ j. natAbs (at a j) * radius s j) n))
   where
     times : (c : ℤ) {y v r : ℚ} → Near y v r → Near (ι c *ℚ y) (ι c *ℚ v) (ι (pos (natAbs c)) *ℚ r)
-    times c {y} {v} n = record { off = ι c *ℚ n .off; small = within-* (within-ι c) (n .small); is = ap (ι c *ℚ_) (n .is) ∙ *ℚ-+ℚ (ι c) v (n .off) }
+    times c {y} {v} n = record {
+      off = ι c *ℚ n .off;
+      small = within-* (within-ι c) (n .small);
+      is = ap (ι c *ℚ_) (n .is)
+          ∙ *ℚ-+ℚ (ι c) v (n .off);
+    }
 
 -- a halfspace whose bound the lower end exceeds has no point of the set
 pub apart : (h : Halfspace) {s : Zonotope} {α x : Vector} → InRange α → Point s α x → T (ltZ (h .bound) (lowAlong (h .normal) s))
@@ -70,7 +76,8 @@ apart h {s} w p t le =
     let low = low-holds (λ v. dot (s .dimension) (at (h .normal)) (at v)) _ w p (along-near (h .normal) p) in
     <ℚ-≤ℚ-trans (ι-< (h .bound) (lowAlong (h .normal) s) .1 (ltZ-yes t)) low .lt le
 
-pub safe-point : (hs : List Halfspace) {s : Zonotope} {α x : Vector} → InRange α → Point s α x → T (safe hs s) → ¬ (Unsafe hs (s .dimension) x)
+pub safe-point : (hs : List Halfspace) {s : Zonotope} {α x : Vector} → InRange α → Point s α x → T (safe hs s) →
+    ¬ (Unsafe hs (s .dimension) x)
 unfolding safe any
 safe-point [] w p t u = t
 safe-point (h ∷ hs) {s} {α} {x} w p t (more le rest) =

@@ -40,7 +40,7 @@ monomial-kept α p j (k ∷ ks) (e ∷ es) z =
     go false h ih = ap (λ n. power (α k) n *ℚ monomial α ks es) (h tt) ∙ one-*ℚ (monomial α ks es) ∙ ih
 
 -- where no term has the factor at place j, each has exponent 0 there
-unused-zero : (p : ℕ → Bool) (ts : List Term) → ((j : ℕ) → T (not (p j)) → T (not (occurs ts j)))
+pub unused-zero : (p : ℕ → Bool) (ts : List Term) → ((j : ℕ) → T (not (p j)) → T (not (occurs ts j)))
     → All (λ t. (j : ℕ) → T (not (p j)) → getD (t .exponents) j 0 ≡ 0) ts
 unfolding any
 unused-zero p [] h = none

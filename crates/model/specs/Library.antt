@@ -8,7 +8,8 @@ use lib.Dec.{ltb, eqb}
 use lib.ListN.{length}
 use lib.IntN.{ℤ, natAbs}
 use Rattle.whole.specs.Tab.{any}
-use Rattle.model.specs.Limits.{recordIdentifiers, firstFresh, lastFresh, maxTerms, maxGenerators, maxHalfspaces, maxEntry, maxConstant}
+use Rattle.model.specs.Limits.{recordIdentifiers, firstFresh, lastFresh, maxTerms, maxGenerators, maxHalfspaces, maxEntry}
+use Rattle.model.specs.Limits.{maxConstant}
 use Rattle.model.specs.Limits.{maxDisturbance, maxBound, standardWeights}
 use Rattle.model.specs.Set.{Zonotope}
 use Rattle.model.specs.Valid.{badCounts, badRange, badOrder, tooWide}
@@ -24,7 +25,8 @@ pub record Given : Type 0 where
 
 -- ---- a set that is given: 4, 6, 7, 8
 abbrev pub ofFirst : Given → List Cause
-ofFirst g = (4 if badCounts (g .set)) ∷ (6 if badRange recordIdentifiers (g .set)) ∷ (7 if g .spare || badOrder (g .set)) ∷ (8 if tooWide (g .set)) ∷ []
+ofFirst g = (4 if badCounts (g .set)) ∷ (6 if badRange recordIdentifiers (g .set)) ∷ (7 if g .spare || badOrder (g .set)) ∷
+    (8 if tooWide (g .set)) ∷ []
 
 -- a second set: 5 stands between 4 and 6
 abbrev pub ofSecond : Given → Given → List Cause
@@ -91,8 +93,8 @@ stepRefusal short p g =
     firstOf ((13 if short) ∷ ofFirst g
     ++ ((4 if badDimension (p .rows) || badDimension (p .columns))
     ∷ (3 if differs (length (p .constant)) (p .rows)
-        || differs (length (p .linear)) (p .rows * p .columns)
-        || differs (length (p .quadratic)) (p .rows * p .columns * p .columns))
+    || differs (length (p .linear)) (p .rows * p .columns)
+    || differs (length (p .quadratic)) (p .rows * p .columns * p .columns))
     ∷ (5 if differs (p .columns) (g .set .dimension))
     ∷ (6 if any (beyond maxConstant) (p .constant) || any (beyond maxEntry) (p .linear) || any (beyond maxEntry) (p .quadratic))
     ∷ (10 if tooWide (Step.step standardWeights p (g .set)))

@@ -1,0 +1,85 @@
+-- A step's raw and rounded image has the step's shape, and each of its terms has a factor.
+use mathlib.Core.Path.{_≡_, refl, sym, _∙_}
+use mathlib.Core.List.{List, [], _∷_, map}
+use mathlib.Core.Bool.{Bool, true, false, _&&_, true≢false}
+use Prim.Native.Nat.{ℕ, _+_}
+use native.Mathlib.Omega.{arith}
+use lib.Dec.{eqb}
+use lib.ListN.{length-map}
+use borrow.Author.Tests.{eqb-false, ne-eqb}
+use Rattle.whole.specs.Round.{round}
+use Rattle.whole.specs.Tab.{tab, all, length-tab}
+use Rattle.rational.specs.Sum.{All, none, more, All-imp, All-map, All-++}
+use Rattle.model.specs.Set.{Term, Zonotope, longer, plusℕ}
+use Rattle.model.specs.Valid.{constant}
+use Rattle.model.specs.Step.{Step, own, paired, pairs, rawCentre, rawLinear, raw, rounded}
+use Rattle.model.proofs.Vectors.{longer-length}
+use Rattle.model.proofs.Lists.{all-both}
+use Rattle.model.proofs.Shape.{Row}
+use Rattle.model.proofs.Finished.{Ready}
+
+-- the sum of exponents has a factor where the first row has one
+plus-factor : (e f : List ℕ) → constant e ≡ false → constant (plusℕ e f) ≡ false
+unfolding longer all
+plus-factor [] f h = absurd (true≢false h)
+plus-factor (x ∷ e) [] h = h
+plus-factor (x ∷ e) (y ∷ f) h = go (eqb x 0) refl h (plus-factor e f) where
+  go : (b : Bool) → eqb x 0 ≡ b → (b && constant e) ≡ false → (constant e ≡ false → constant (plusℕ e f) ≡ false)
+      → (eqb (x + y) 0 && constant (plusℕ e f)) ≡ false
+  go true q k ih = last (eqb (x + y) 0) (ih k) where
+    last : (b : Bool) {c : Bool} → c ≡ false → (b && c) ≡ false
+    last true e = e
+    last false e = refl
+  go false q k ih = let z = eqb-false x 0 q in rw (ne-eqb (x + y) 0 (λ e. z (omega arith)))
+
+-- a term of p factors in n coordinates that has a factor
+abbrev Factored : ℕ → ℕ → Term → Type 0
+Factored p n t = Row p n t × (constant (t .exponents) ≡ false)
+
+module _ (p : Step) (s : Zonotope) {m n : ℕ} where
+  own-factored : (t : Term) → Factored m n t → Factored m (p .rows) (own p s t)
+  own-factored t h = (record { exponents-long = h .0 .exponents-long; coefficients-long = length-tab _ _ }, h .1)
+
+  paired-factored : (t u : Term) → Factored m n t → Factored m n u → Factored m (p .rows) (paired p s t u)
+  paired-factored t u h k = (
+    record {
+      exponents-long =
+          longer-length _+_ (t .exponents) (u .exponents) (h .0 .exponents-long ∙ sym (k .0 .exponents-long)) ∙ h .0 .exponents-long;
+      coefficients-long = length-tab _ _;
+    },
+    plus-factor (t .exponents) (u .exponents) (h .1),
+  )
+
+  pairs-factored : {ts : List Term} → All (Factored m n) ts → All (Factored m (p .rows)) (pairs p s ts)
+  unfolding pairs
+  pairs-factored none = none
+  pairs-factored (more {a = t} h r) =
+      more (
+        record {
+          exponents-long = longer-length _+_ (t .exponents) (t .exponents) refl ∙ h .0 .exponents-long;
+          coefficients-long = length-tab _ _;
+        },
+        plus-factor (t .exponents) (t .exponents) (h .1),
+      )
+      (All-++ (All-map (paired p s t) (All-imp (λ u k. paired-factored t u h k) r)) (pairs-factored r))
+
+-- The image of a set that is ready for finishing, or finished, is ready.
+pub step-ready : (p : Step) {s : Zonotope} → Ready s → Ready (rounded (raw p s))
+unfolding rounded raw
+step-ready p {s} r =
+    let terms = all-both (r .shaped .rows) (r .has-factors) in
+    let image = All-++ (All-map (own p s) (All-imp (own-factored p s) terms)) (pairs-factored p s terms) in
+    record {
+      shaped = record {
+        centre-long = length-map (tab (p .rows) (rawCentre p s)) round ∙ length-tab (p .rows) (rawCentre p s);
+        radii-long = length-tab (p .rows) _;
+        rows = All-map _ (All-imp (λ t h. record {
+          exponents-long = h .0 .exponents-long;
+          coefficients-long = length-map (t .coefficients) round ∙ h .0 .coefficients-long;
+        }) image);
+        generators-long = All-map (map round) (All-map _ (All-imp (λ g h. length-map (tab (p .rows) (rawLinear p s g)) round
+            ∙ length-tab (p .rows) (rawLinear p s g)) (r .shaped .generators-long)));
+      };
+      identifiers-rise = r .identifiers-rise;
+      has-factors = All-map _ (All-imp (λ t h. h .1) image);
+    }
