@@ -1,5 +1,6 @@
 -- What is proved of the definitions.
 --     Marked, Listing                      document 01's marked table, its listing and some refusals
+--     PairTable                            each place of the pair table belongs to one pair, in row order
 --     Order, Collect, Merge                the order of terms; collecting doesn't depend on the order in which terms come
 --     FoldOrder, Select, Level, FirstBySize   folding the smallest one at a time is keeping the first by size, then by place
 --     Lists, Tests, Shape                  rising lists; the tests of validity as facts, and back
@@ -17,6 +18,7 @@
 --     OldFault                             with a next identifier that doesn't rise, demand 3 is false
 pub mod Marked
 pub mod Listing
+pub mod PairTable
 pub mod Vectors
 pub mod Order
 pub mod Collect
