@@ -52,10 +52,11 @@ pub record Allowed (p : Picks) (fields : List (List ℕ)) : Type 0 where
 abbrev pub bodyPoint : Picks → ℕ → Zonotope → Vector → Vector
 bodyPoint p m s α i = valueAt s α (tab (length (s .generators)) (p .numbers m)) i +ℚ p .offsets m i
 
--- the exact image under a step: c_i + A_i·x/4096 + Q_i(x, x)/16,777,216
+-- the coordinates 0 .. n - 1
 abbrev pub places : ℕ → List ℕ
 places n = tab n (λ j. j)
 
+-- the exact image under a step: c_i + A_i·x/4096 + Q_i(x, x)/16,777,216
 unfoldable pub image : Step → Vector → Vector
 image s x i =
     ι (at (s .constant) i)
