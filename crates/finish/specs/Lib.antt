@@ -9,5 +9,12 @@ pub mod Padded
 pub mod Mapped
 pub mod WideCollect
 pub mod WideStages
+pub mod Stages
 pub mod WideFinish
 pub mod WideRecord
+pub mod Held
+pub mod Reduce
+pub mod Spans
+pub mod Numbers
+pub mod Packing
+pub mod Answer

@@ -12,6 +12,7 @@ use Rattle.model.proofs.Lists.{sublist-all}
 use Rattle.model.proofs.Selected.{those-sublist}
 use Rattle.model.proofs.Shape.{Shaped}
 use Rattle.model.proofs.Stages.{Lessened, zero-terms, zero-generators, high-terms, small-terms, small-generators}
+use Rattle.finish.specs.Stages.{reduced, finish-reduced}
 use Rattle.finish.specs.Wide.{wideVector, wideRadii, wideCore, wide, wideNumbers}
 use Rattle.finish.specs.WideCollect.{collect-wide, collect-rows}
 use Rattle.finish.specs.WideStages.{nonzero-terms-wide, nonzero-generators-wide, high-terms-wide, low-terms-wide, fold-terms-wide}
@@ -97,25 +98,40 @@ module _ (s : Zonotope) (n : Narrow s) where
   }
 
 -- ---- the whole
--- Finishing a wide set gives the finished set, with its numbers wide.
-pub finish-wide : (weights : List ℕ) (h q : ℕ) (s : Zonotope) → Narrow s → finish weights h q (wide s) ≡ wideNumbers (finish weights h q s)
-unfolding finish
-finish-wide weights h q s n =
-    let s₁ = collectTerms s in
-    let s₂ = dropZeroTerms s₁ in
-    let s₃ = dropZeroGenerators s₂ in
-    let s₄ = foldHigh s₃ in
-    let s₅ = foldTerms weights h s₄ in
-    let s₆ = foldGenerators weights q s₅ in
-    let n₁ = collected-narrow n in
-    let n₂ = lessened-narrow (zero-terms s₁) n₁ in
-    let n₃ = lessened-narrow (zero-generators s₂) n₂ in
-    let n₄ = lessened-narrow (high-terms s₃) n₃ in
-    let n₅ = lessened-narrow (small-terms weights h s₄) n₄ in
-    let n₆ = lessened-narrow (small-generators weights q s₅) n₅ in
-    let e₂ = ap dropZeroTerms (collectTerms-wide s n) ∙ dropZeroTerms-wide s₁ n₁ in
-    let e₃ = ap dropZeroGenerators e₂ ∙ dropZeroGenerators-wide s₂ n₂ in
-    let e₄ = ap foldHigh e₃ ∙ foldHigh-wide s₃ n₃ in
-    let e₅ = ap (foldTerms weights h) e₄ ∙ foldTerms-wide s₄ n₄ weights h in
-    let e₆ = ap (foldGenerators weights q) e₅ ∙ foldGenerators-wide s₅ n₅ weights q in
-    ap dropUnused e₆ ∙ dropUnused-wide s₆ n₆
+module _ (weights : List ℕ) (h q : ℕ) (s : Zonotope) (n : Narrow s) where
+  -- all stages but the last
+  reduced-both : (reduced weights h q (wide s) ≡ wide (reduced weights h q s)) × Narrow (reduced weights h q s)
+  unfolding reduced
+  reduced-both =
+      let s₁ = collectTerms s in
+      let s₂ = dropZeroTerms s₁ in
+      let s₃ = dropZeroGenerators s₂ in
+      let s₄ = foldHigh s₃ in
+      let s₅ = foldTerms weights h s₄ in
+      let n₁ = collected-narrow n in
+      let n₂ = lessened-narrow (zero-terms s₁) n₁ in
+      let n₃ = lessened-narrow (zero-generators s₂) n₂ in
+      let n₄ = lessened-narrow (high-terms s₃) n₃ in
+      let n₅ = lessened-narrow (small-terms weights h s₄) n₄ in
+      let e₂ = ap dropZeroTerms (collectTerms-wide s n) ∙ dropZeroTerms-wide s₁ n₁ in
+      let e₃ = ap dropZeroGenerators e₂ ∙ dropZeroGenerators-wide s₂ n₂ in
+      let e₄ = ap foldHigh e₃ ∙ foldHigh-wide s₃ n₃ in
+      let e₅ = ap (foldTerms weights h) e₄ ∙ foldTerms-wide s₄ n₄ weights h in
+      (
+        ap (foldGenerators weights q) e₅ ∙ foldGenerators-wide s₅ n₅ weights q,
+        lessened-narrow (small-generators weights q s₅) n₅,
+      )
+
+  pub reduced-wide : reduced weights h q (wide s) ≡ wide (reduced weights h q s)
+  reduced-wide = reduced-both .0
+
+  pub reduced-narrow : Narrow (reduced weights h q s)
+  reduced-narrow = reduced-both .1
+
+  -- Finishing a wide set gives the finished set, with its numbers wide.
+  pub finish-wide : finish weights h q (wide s) ≡ wideNumbers (finish weights h q s)
+  finish-wide =
+      finish-reduced weights h q (wide s)
+      ∙ ap dropUnused reduced-wide
+      ∙ dropUnused-wide (reduced weights h q s) reduced-narrow
+      ∙ ap wideNumbers (sym (finish-reduced weights h q s))

@@ -120,7 +120,7 @@ module _ {p n : ℕ} (factors : p ≤ 12) (coordinates : n ≤ 6) where
   occurs-wide none j = refl
   occurs-wide (more {a = t} r rows) j = ap₂ _||_ (ap (ltb 0) (padded-at 0 12 (t .exponents) (few t r) j)) (occurs-wide rows j)
 
-  occurs-past : {ts : List Term} → All (Row p n) ts → (j : ℕ) → p ≤ j → occurs ts j ≡ false
+  pub occurs-past : {ts : List Term} → All (Row p n) ts → (j : ℕ) → p ≤ j → occurs ts j ≡ false
   occurs-past rows j h = false-any _ (All-imp (λ t r. ap (ltb 0) (List·getD-eq-default (t .exponents) 0 (omega arith))) rows)
 
   pub keep-wide : (q : ℕ → Bool) → ((j : ℕ) → p ≤ j → q j ≡ false) → (t : Term) → Row p n t

@@ -1,0 +1,178 @@
+// The sum of two sets before finishing: rows of 12 exponents for common factors and of 6 numbers in lent slices, a centre and radii.
+ghost use mathlib.Core.Path.{_≡_};
+ghost use mathlib.Core.List.{List};
+ghost use Prim.Native.Nat.{ℕ, _+_, _*_, _≤_};
+ghost use lib.ListN.{length, getD};
+ghost use lib.IntN.{pos};
+ghost use Rattle.whole.specs.Write.{write};
+ghost use Rattle.model.specs.Limits.{maxSpan, lastFresh};
+ghost use Rattle.model.specs.Operations.{joined, renumbered};
+ghost use Rattle.zonotope.specs.Record.{view};
+ghost use Rattle.rows.specs.Rows.{Small};
+ghost use Rattle.align.specs.Runs.{flat};
+ghost use Rattle.align.specs.Examined.{Examined};
+ghost use Rattle.align.specs.Sum.{summed, exponentsOf, Factors, Common, Terms, Generators, Space, Joined};
+use zonotope::PolyZonotope;
+
+mod factors;
+mod wide;
+
+// Identifiers of up to 24 factors, in the first `count` places.
+pub struct Identifiers {
+    pub count: usize,
+    pub numbers: [u32; 24],
+}
+
+// The sum of two sets before finishing, but for what stands in lent slices: how many rows there are, the centre and the radii.
+pub struct Sum {
+    pub terms: usize,
+    pub generators: usize,
+    pub centre: [i64; 6],
+    pub radii: [u64; 6],
+}
+
+// The identifiers of the tied sum: equal ones are one factor.
+pub fn tied_identifiers(a: PolyZonotope, b: PolyZonotope) -> Identifiers
+    requires { ⌜ Examined a × Examined b ⌝ }
+    ensures { λ r. ⌜ Factors (joined (view a) (view b)) r ⌝ }
+{
+    factors::unite(&a.identifiers, a.factors, &b.identifiers, b.factors)
+}
+
+// The identifiers of the independent sum: those of the second set become next, next + 1 ..
+pub fn independent_identifiers(next: u32, a: PolyZonotope, b: PolyZonotope) -> Identifiers
+    requires { ⌜ Examined a × Examined b × (next ≤ lastFresh) ⌝ }
+    ensures { λ r. ⌜ Factors (joined (view a) (renumbered next (view b))) r ⌝ }
+{
+    let q = b.factors;
+    let fresh = factors::renumber(next, q);
+    factors::unite(&a.identifiers, a.factors, &fresh, q)
+}
+
+// The tied sum before finishing, over its identifiers.
+pub fn tied(
+    a: PolyZonotope,
+    b: PolyZonotope,
+    all: Identifiers,
+    e: &mut [u8],
+    c: &mut [i64],
+    g: &mut [i64],
+) -> Sum
+    requires { ⌜ Examined a × Examined b × Common (joined (view a) (view b)) all × Space (now e) (now c) (now g) ⌝ }
+    ensures { λ r. ⌜ Joined (joined (view a) (view b)) all r (now (e .entry)) (now (e .exit)) (now (c .entry)) (now (c .exit))
+        (now (g .entry)) (now (g .exit)) ⌝ }
+{
+    let ids = b.identifiers;
+    join(a, b, &ids, all, e, c, g)
+}
+
+// The independent sum before finishing, over its identifiers.
+pub fn independent(
+    next: u32,
+    a: PolyZonotope,
+    b: PolyZonotope,
+    all: Identifiers,
+    e: &mut [u8],
+    c: &mut [i64],
+    g: &mut [i64],
+) -> Sum
+    requires { ⌜ Examined a × Examined b × (next ≤ lastFresh) × Common (joined (view a) (renumbered next (view b))) all
+        × Space (now e) (now c) (now g) ⌝ }
+    ensures { λ r. ⌜ Joined (joined (view a) (renumbered next (view b))) all r (now (e .entry)) (now (e .exit)) (now (c .entry))
+        (now (c .exit)) (now (g .entry)) (now (g .exit)) ⌝ }
+{
+    let ids = factors::renumber(next, b.factors);
+    join(a, b, &ids, all, e, c, g)
+}
+
+// The sum of a and b, whose identifiers count as `ids`, before finishing, over the factors `all`.
+fn join(
+    a: PolyZonotope,
+    b: PolyZonotope,
+    ids: &[u32; 12],
+    all: Identifiers,
+    e: &mut [u8],
+    c: &mut [i64],
+    g: &mut [i64],
+) -> Sum
+    requires { ⌜ Examined a × Examined b × Common (summed a b (now ids)) all × Space (now e) (now c) (now g) ⌝ }
+    ensures { λ r. ⌜ Joined (summed a b (now (ids .entry))) all r (now (e .entry)) (now (e .exit)) (now (c .entry)) (now (c .exit))
+        (now (g .entry)) (now (g .exit)) ⌝ }
+{
+    let terms = join_terms(a, b, ids, all, e, c);
+    let generators = join_generators(a, b, g);
+    let centre = wide::add_centres(&a.centre, &b.centre);
+    let radii = wide::add_radii(&a.radii, &b.radii);
+    Sum {
+        terms,
+        generators,
+        centre,
+        radii,
+    }
+}
+
+// The terms of the sum of a and b, whose identifiers count as `ids`, in rows for the factors `all`. The answer is how many there are.
+fn join_terms(
+    a: PolyZonotope,
+    b: PolyZonotope,
+    ids: &[u32; 12],
+    all: Identifiers,
+    e: &mut [u8],
+    c: &mut [i64],
+) -> usize
+    requires { ⌜ Examined a × Examined b × Common (summed a b (now ids)) all × (960 ≤ length (now e)) × (480 ≤ length (now c))
+        × Small maxSpan (now c) ⌝ }
+    ensures { λ r. ⌜ Terms (summed a b (now (ids .entry))) (now (e .entry)) (now (e .exit)) (now (c .entry)) (now (c .exit)) r ⌝ }
+{
+    let own = a.identifiers;
+    let h = a.terms;
+    put_exponents(a, &own, all, e, 0);
+    put_exponents(b, ids, all, e, h);
+    put_coefficients(a, c, 0);
+    put_coefficients(b, c, h);
+    h + b.terms
+}
+
+// The generators of both, one after the other. The answer is how many there are.
+fn join_generators(a: PolyZonotope, b: PolyZonotope, g: &mut [i64]) -> usize
+    requires { ⌜ Examined a × Examined b × (288 ≤ length (now g)) × Small maxSpan (now g) ⌝ }
+    ensures { λ r. ⌜ ((ids : List ℕ) → Generators (summed a b ids) (now (g .entry)) (now (g .exit)) r) ⌝ }
+{
+    let h = a.generators;
+    put_generators(a, g, 0);
+    put_generators(b, g, h);
+    h + b.generators
+}
+
+// The exponents of a set whose identifiers count as `ids`, in rows for the factors `all`, from row `to` on.
+fn put_exponents(s: PolyZonotope, ids: &[u32; 12], all: Identifiers, e: &mut [u8], to: usize)
+    requires { ⌜ Examined s × (all .count ≤ 12) × (to * 12 + s .terms * 12 ≤ length (now e)) ⌝ }
+    ensures { λ _. ⌜ now (e .exit) ≡ write (now (e .entry)) (to * 12) (flat 12 (exponentsOf s (now (ids .entry)) all)) (s .terms * 12) ⌝ }
+{
+    wide::align_rows(
+        &s.exponents,
+        s.terms,
+        ids,
+        s.factors,
+        &all.numbers,
+        all.count,
+        e,
+        to,
+    );
+}
+
+// The coefficients of a set, from row `to` on.
+fn put_coefficients(s: PolyZonotope, c: &mut [i64], to: usize)
+    requires { ⌜ Examined s × (to * 6 + s .terms * 6 ≤ length (now c)) ⌝ }
+    ensures { λ _. ⌜ now (c .exit) ≡ write (now (c .entry)) (to * 6) (λ k. getD (s .coefficients) k (pos 0)) (s .terms * 6) ⌝ }
+{
+    wide::widen_rows(&s.coefficients, s.terms, c, to);
+}
+
+// The generators of a set, from row `to` on.
+fn put_generators(s: PolyZonotope, g: &mut [i64], to: usize)
+    requires { ⌜ Examined s × (to * 6 + s .generators * 6 ≤ length (now g)) ⌝ }
+    ensures { λ _. ⌜ now (g .exit) ≡ write (now (g .entry)) (to * 6) (λ k. getD (s .vectors) k (pos 0)) (s .generators * 6) ⌝ }
+{
+    wide::widen_rows(&s.vectors, s.generators, g, to);
+}

@@ -1,0 +1,76 @@
+-- `finish::span::span_at` meets its contract, by those of its sums.
+use borrow.Author.Needs.{needs}
+use native.Mathlib.Omega.{arith}
+use mathlib.Core.Path.{_≡_, ap, ap₂, _∙_}
+use Prim.Native.Nat.{_+_, _^_, _<_}
+use lib.ListN.{getD}
+use lib.IntN.{ℤ, pos, natAbs}
+use Rattle.whole.specs.Fits.{read64}
+use Rattle.finish.specs.Spans.{span-fits}
+use Rattle.finish.proofs.span.span_at.Statement.{statement}
+use Rattle.finish.proofs.span.span_at.Tie as tie
+
+-- the size of the centre's number
+size-is : (c : tie.After-size) → c .size .result ≡ natAbs (getD (c .before .before .before .before .before .before .args .k .centre) (c .before .before .before .before .before .before .args .i) (pos 0))
+size-is c =
+    c .size .ensures
+    ∙ ap natAbs (read64 (getD (c .before .before .before .before .before .before .args .k .centre) (c .before .before .before .before .before .before .args .i) (pos 0)) (c .before .x .given))
+
+-- the whole sum fits
+sum-fits : (c : tie.After-size) → c .size .result + c .before .before .before .column-size .result + c .before .before .column-size2 .result
+    + getD (c .before .before .before .before .before .before .args .k .radii) (c .before .before .before .before .before .before .args .i) 0 < 2 ^ 63
+sum-fits c =
+    rw (size-is c)
+    (span-fits (c .before .before .before .before .before .before .pre .1) (c .before .before .before .before .before .before .args .i) _ _ (c .before .before .before .column-size .ensures .1) (c .before .before .column-size2 .ensures .1))
+
+column-size-requires : tie.Need-column-size-requires
+column-size-requires c κs = search needs
+
+column-size-requires-2 : tie.Need-column-size-requires-2
+column-size-requires-2 c κs = search needs
+
+mul-x : tie.Need-mul-x
+mul-x c = search needs
+
+array-copy-out-x : tie.Need-array-copy-out-x
+array-copy-out-x c = search needs
+
+size-requires : tie.Need-size-requires
+size-requires c κs = search needs
+
+add-result : tie.Need-add-result
+add-result c = omega (arith, sum-fits c)
+
+add-result-2 : tie.Need-add-result-2
+add-result-2 c = omega (arith, sum-fits c)
+
+mul-result : tie.Need-mul-result
+mul-result c = search needs
+
+array-read-result : tie.Need-array-read-result
+array-read-result c = search needs
+
+add-result-3 : tie.Need-add-result-3
+add-result-3 c = omega (arith, sum-fits c)
+
+returns : tie.Need-returns
+returns c =
+    let s = c .before .before .before .before .before .before in
+    ap (_+ getD (s .args .k .radii) (s .args .i) 0)
+    (ap₂ _+_ (ap₂ _+_ (size-is c) (c .before .before .before .column-size .ensures .0)) (c .before .before .column-size2 .ensures .0))
+
+pub span-at-spec : {M : Type 1} → statement M
+span-at-spec =
+    tie.close
+    (tie.spec
+    column-size-requires
+    column-size-requires-2
+    mul-x
+    array-copy-out-x
+    size-requires
+    add-result
+    add-result-2
+    mul-result
+    array-read-result
+    add-result-3
+    returns)

@@ -1,0 +1,54 @@
+-- `select::part_terms` meets its contract, by what its passes leave.
+use borrow.Author.Needs.{needs}
+use Rattle.select.specs.Stage.{terms-passed, ready-after}
+use Rattle.select.proofs.part_terms.Statement.{statement}
+use Rattle.select.proofs.part_terms.Tie as tie
+
+mark-requires : tie.Need-mark-requires
+mark-requires c κs = search needs
+
+fold-rows-requires : tie.Need-fold-rows-requires
+fold-rows-requires c κs = search needs
+
+keep-rows-requires : tie.Need-keep-rows-requires
+keep-rows-requires c κs = search needs
+
+keep-places-requires : tie.Need-keep-places-requires
+keep-places-requires c κs = search needs
+
+same-length : tie.Need-same-length
+same-length c = search needs
+
+same-length-2 : tie.Need-same-length-2
+same-length-2 c = search needs
+
+returns : tie.Need-returns
+returns c =
+    let places = c .before .before .before .before in
+    let rows = places .before .before .before in
+    let folds = rows .before .before in
+    let marks = folds .before .before .before in
+    let s = marks .before .before .before .before in
+    let v = folds .fold-rows .ensures in
+    record {
+      is = terms-passed (s .args .e .now) (s .args .heads .now) _ (s .args .s .now) _ (s .args .n) (rows .keep-rows .result)
+          (places .keep-places .result)
+          (s .args .gone .now) (marks .mark .result) (marks .mark .ensures) v (places .keep-places .ensures .1)
+          (rows .keep-rows .ensures .1);
+      fewer = rows .keep-rows .ensures .0;
+      ready = ready-after (s .pre .0) (rows .keep-rows .ensures .0) (places .keep-places .kept .0) (rows .keep-rows .kept .0)
+          (places .keep-places .ensures .2 (s .args .e .now) (s .pre .0 .rows)) (rows .keep-rows .ensures .2 _ (s .pre .0 .small));
+      bounded = record { centre = v .centre-small; radii = v .radii-small };
+    }
+
+pub part-terms-spec : {M : Type 1} → statement M
+part-terms-spec =
+    tie.close
+    (tie.spec
+    mark-requires
+    fold-rows-requires
+    keep-rows-requires
+    keep-places-requires
+    same-length
+    same-length-2
+    returns)

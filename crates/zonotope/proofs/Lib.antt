@@ -1,0 +1,2 @@
+pub mod PackView
+pub mod ViewPack

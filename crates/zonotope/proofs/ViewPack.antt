@@ -1,0 +1,135 @@
+-- A set that a record can hold is what its record means, and its record has no spare place.
+use mathlib.Core.Path.{_≡_, refl, sym, _∙_, ap, ap₂}
+use mathlib.Core.List.{List, []}
+use mathlib.Core.Bool.{Bool, true, false, not, _&&_, _||_}
+use Prim.Native.Nat.{ℕ, zero, suc, _+_, _*_, _/_, _%_, _<_, _≤_}
+use native.Mathlib.Nat.{le-of-suc-le-suc, mul-add-div-right, div-eq-of-lt, mul-add-mod-self-right, mod-eq-of-lt}
+use native.Mathlib.Decide.{decLt}
+use native.Mathlib.Omega.{arith}
+use borrow.Author.Tests.{lt-ltb, ltb-false}
+use lib.Dec.{ltb, eqb}
+use lib.ListN.{length, getD, List·getD-eq-default}
+use lib.IntN.{ℤ, pos}
+use Rattle.whole.specs.Tab.{tab, any, length-tab, getD-tab, tab-cong, tab-getD}
+use Rattle.rational.specs.Sum.{All, none, more}
+use Rattle.model.specs.Set.{Term, Zonotope, at}
+use Rattle.model.specs.Valid.{badCounts, isZero}
+use Rattle.zonotope.specs.declared.PolyZonotope.{PolyZonotope}
+use Rattle.zonotope.specs.Record.{row, view, pack, noTerm, inRows, spare}
+use Rattle.zonotope.specs.Tests.{any-none}
+use Rattle.zonotope.specs.Counts.{countable}
+use Rattle.zonotope.specs.Shape.{Shaped}
+
+-- ---- what the record of a set means
+all-at : {A : Type 0} {P : A → Type 0} {l : List A} (d : A) → All P l → (i : ℕ) → i < length l → P (getD l i d)
+all-at d none i h = absurd (omega arith)
+all-at d (more p ps) zero h = p
+all-at d (more p ps) (suc i) h = all-at d ps i (le-of-suc-le-suc h)
+
+module _ {A : Type 0} (d : A) where
+  -- the first k of the n places of a table
+  front : (n k : ℕ) (f : ℕ → A) → k ≤ n → tab k (λ i. getD (tab n f) i d) ≡ tab k f
+  front n k f h = tab-cong k _ _ (λ i l. getD-tab n f d i (omega arith))
+
+  -- row t of a table of rows
+  row-of : (w n t k : ℕ) (F : ℕ → ℕ → A) → k ≤ w → t * w + w ≤ n → row w d (tab n (λ x. F (x / w) (x % w))) t k ≡ tab k (F t)
+  row-of w n t k F h m =
+      tab-cong k _ _ (λ i l. getD-tab n (λ x. F (x / w) (x % w)) d (t * w + i) (omega arith)
+      ∙ ap₂ F (mul-add-div-right {m = w} (omega arith) t i ∙ ap (t +_) (div-eq-of-lt (omega arith)) ∙ omega arith)
+      (mul-add-mod-self-right t w i ∙ mod-eq-of-lt (omega arith)))
+
+pub view-pack : (m : Zonotope) → Shaped m → badCounts m ≡ false → view (pack m) ≡ m
+unfolding pack view
+view-pack m z b =
+    let l = countable m b in
+    let n = m .dimension in
+    let p = length (m .identifiers) in
+    same-set m _ _ _ _ _ _
+    refl
+    (front 0 12 p (λ i. getD (m .identifiers) i 0) (l .factors) ∙ tab-getD p (m .identifiers) 0 refl)
+    (front (pos 0) 6 n (at (m .centre)) (l .dimension) ∙ tab-getD n (m .centre) (pos 0) (z .centre))
+    (tab-cong (length (m .terms)) _ _ (λ t h. let s = all-at noTerm (z .terms) t h in same-term (getD (m .terms) t noTerm) _ _
+    (row-of 0 12 480 t p (λ q i. getD (getD (m .terms) q noTerm .exponents) i 0) (l .factors) (omega arith) ∙ tab-getD p _ 0 (s .exponents))
+    (row-of (pos 0) 6 240 t n (λ q i. at (getD (m .terms) q noTerm .coefficients) i) (l .dimension) (omega arith)
+    ∙ tab-getD n _ (pos 0) (s .coefficients)))
+    ∙ tab-getD (length (m .terms)) (m .terms) noTerm refl)
+    (tab-cong (length (m .generators)) _ _ (λ g h.
+    row-of (pos 0) 6 144 g n (λ q i. at (getD (m .generators) q []) i) (l .dimension) (omega arith)
+    ∙ tab-getD n _ (pos 0) (all-at [] (z .generators) g h))
+    ∙ tab-getD (length (m .generators)) (m .generators) [] refl)
+    (front 0 6 n (λ i. getD (m .radii) i 0) (l .dimension) ∙ tab-getD n (m .radii) 0 (z .radii))
+  where
+    same-term : (t : Term) (e : List ℕ) (c : List ℤ) → e ≡ t .exponents → c ≡ t .coefficients →
+        _≡_ {A = Term} (record { exponents = e; coefficients = c }) t
+    same-term t e c p q = rw (p, q)
+
+    same-set : (m : Zonotope) (n : ℕ) (k : List ℕ) (c : List ℤ) (t : List Term) (g : List (List ℤ)) (r : List ℕ)
+        → n ≡ m .dimension → k ≡ m .identifiers → c ≡ m .centre → t ≡ m .terms → g ≡ m .generators → r ≡ m .radii
+        → _≡_ {A = Zonotope} (record { dimension = n; identifiers = k; centre = c; terms = t; generators = g; radii = r }) m
+    same-set m n k c t g r e₁ e₂ e₃ e₄ e₅ e₆ = rw (e₁, e₂, e₃, e₄, e₅, e₆)
+
+-- ---- the record of a set has no spare place
+module _ {A : Type 0} (d : A) (isNone : A → Bool) (zero-is : isNone d ≡ true) where
+  used-or-none : (a : Bool) (x : A) → (a ≡ false → x ≡ d) → not (a || isNone x) ≡ false
+  used-or-none true x h = refl
+  used-or-none false x h = ap (λ y. not (isNone y)) (h refl) ∙ ap not zero-is
+
+  full : (n k : ℕ) (l : List A) → length l ≤ k → any (λ x. not (ltb x k || isNone (getD (tab n (λ i. getD l i d)) x d)))
+      (tab n (λ x. x)) ≡ false
+  full n k l h =
+      any-none _ n (λ x. x) (λ x m. used-or-none (ltb x k) (getD (tab n (λ i. getD l i d)) x d)
+      (λ u. getD-tab n (λ i. getD l i d) d x m ∙ List·getD-eq-default l d (omega (arith, ltb-false x k u))))
+
+  full-rows : (w n t k : ℕ) (R : ℕ → List A) → ((q : ℕ) → q < t → length (R q) ≡ k) → ((q : ℕ) → t ≤ q → R q ≡ [])
+      → any (λ x. not (inRows w t k x || isNone (getD (tab n (λ x. getD (R (x / w)) (x % w) d)) x d))) (tab n (λ x. x)) ≡ false
+  full-rows w n t k R in-row past =
+      any-none _ n (λ x. x) (λ x m. used-or-none (inRows w t k x) (getD (tab n (λ x. getD (R (x / w)) (x % w) d)) x d)
+      (λ u. getD-tab n (λ x. getD (R (x / w)) (x % w) d) d x m ∙ go x u (decLt (x / w) t)))
+    where
+      go : (x : ℕ) → inRows w t k x ≡ false → Dec (x / w < t) → getD (R (x / w)) (x % w) d ≡ d
+      go x u (no l) = ap (λ r. getD r (x % w) d) (past (x / w) (omega arith))
+      go x u (yes l) =
+          List·getD-eq-default (R (x / w)) d (omega (
+            arith,
+            in-row (x / w) l,
+            ltb-false (x % w) k
+                (ap (_&& ltb (x % w) k) (sym (lt-ltb (x / w) t l)) ∙ u),
+          ))
+
+pub spare-pack : (m : Zonotope) → Shaped m → spare (pack m) ≡ false
+unfolding pack spare
+spare-pack m z =
+    let n = m .dimension in
+    let p = length (m .identifiers) in
+    let h = length (m .terms) in
+    let q = length (m .generators) in
+    let T : ℕ → Term = λ t. getD (m .terms) t noTerm in
+    let none-past : (k : ℕ) → h ≤ k → T k ≡ noTerm = λ k l. List·getD-eq-default (m .terms) noTerm l in
+    rw (
+      full 0 (λ k. eqb k 0) refl 12 p (m .identifiers) (omega arith),
+      full (pos 0) isZero refl 6 n (m .centre) (omega (arith, z .centre)),
+      full-rows 0 (λ k. eqb k 0) refl 12 480 h p (λ t. T t .exponents) (λ t l. all-at noTerm (z .terms) t l .exponents)
+          (λ t l. ap (λ t. t .exponents) (none-past t l)),
+      full-rows (pos 0) isZero refl 6 240 h n (λ t. T t .coefficients) (λ t l. all-at noTerm (z .terms) t l .coefficients)
+          (λ t l. ap (λ t. t .coefficients) (none-past t l)),
+      full-rows (pos 0) isZero refl 6 144 q n (λ g. getD (m .generators) g []) (λ g l. all-at [] (z .generators) g l)
+          (λ g l. List·getD-eq-default (m .generators) [] l),
+      full 0 (λ k. eqb k 0) refl 6 n (m .radii) (omega (arith, z .radii)),
+    )
+
+-- ---- what a record means has the shape of a set
+all-tab : {A : Type 0} {P : A → Type 0} (n : ℕ) (f : ℕ → A) → ((k : ℕ) → P (f k)) → All P (tab n f)
+unfolding tab
+all-tab zero f h = none
+all-tab (suc n) f h = more (h 0) (all-tab n (λ k. f (suc k)) (λ k. h (suc k)))
+
+pub view-shaped : (s : PolyZonotope) → Shaped (view s)
+unfolding view
+view-shaped s = record {
+  centre = length-tab (s .dimension) _;
+  terms =
+      all-tab (s .terms) _
+      (λ t. record { exponents = length-tab (s .factors) _ ∙ sym (length-tab (s .factors) _); coefficients = length-tab (s .dimension) _ });
+  generators = all-tab (s .generators) _ (λ g. length-tab (s .dimension) _);
+  radii = length-tab (s .dimension) _;
+}

@@ -1,0 +1,30 @@
+-- The lengths of a record's arrays, and the shape of a set that a record can hold.
+use mathlib.Core.Path.{_≡_}
+use mathlib.Core.List.{List}
+use Prim.Native.Nat.{ℕ}
+use lib.ListN.{length}
+use lib.IntN.{ℤ}
+use Rattle.rational.specs.Sum.{All}
+use Rattle.model.specs.Set.{Term, Zonotope}
+use Rattle.zonotope.specs.declared.PolyZonotope.{PolyZonotope}
+
+-- the arrays of a record have their lengths
+pub record Sized (s : PolyZonotope) : Type 0 where
+  pub identifiers : length (s .identifiers) ≡ 12
+  pub centre : length (s .centre) ≡ 6
+  pub exponents : length (s .exponents) ≡ 480
+  pub coefficients : length (s .coefficients) ≡ 240
+  pub vectors : length (s .vectors) ≡ 144
+  pub radii : length (s .radii) ≡ 6
+
+-- a term over p factors in n coordinates
+pub record TermShaped (p n : ℕ) (t : Term) : Type 0 where
+  pub exponents : length (t .exponents) ≡ p
+  pub coefficients : length (t .coefficients) ≡ n
+
+-- every vector of a set has a number for each coordinate, every term an exponent for each factor
+pub record Shaped (m : Zonotope) : Type 0 where
+  pub centre : length (m .centre) ≡ m .dimension
+  pub terms : All (TermShaped (length (m .identifiers)) (m .dimension)) (m .terms)
+  pub generators : All (λ (g : List ℤ). length g ≡ m .dimension) (m .generators)
+  pub radii : length (m .radii) ≡ m .dimension
