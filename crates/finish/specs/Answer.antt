@@ -80,7 +80,8 @@ tooWide-kept m = ap (λ (p : ℕ → Bool). any p (tab (m .dimension) (λ i. i))
 span-within : (m : Zonotope) → tooWide m ≡ false → (i : ℕ) → i < m .dimension → span m i ≤ maxSpan
 unfolding tooWide
 span-within m f i h =
-    ltb-false maxSpan (span m i) (tab-all (m .dimension) (λ i. i) (any-false (λ i. ltb maxSpan (span m i)) (tab (m .dimension) (λ i. i)) f) i h)
+    ltb-false maxSpan (span m i) (tab-all (m .dimension) (λ i. i)
+    (any-false (λ i. ltb maxSpan (span m i)) (tab (m .dimension) (λ i. i)) f) i h)
 
 -- ---- the set that is left in rows, of one in wide form
 module _ (weights : List ℕ) (h q : ℕ) {u : Unfinished} {k : Reduced} {e heads : List ℕ} {s g : List ℤ} {m : Zonotope}

@@ -41,7 +41,8 @@ heldBy u k e heads s g =
 
 -- ---- lengths and sizes for which nothing overflows
 -- before the stages; `places` and `heads` are as long as there are rows
-pub record Reducible (u : Unfinished) (e : List ℕ) (c : List ℤ) (places heads : List ℕ) (s g : List ℤ) (generators termLimit generatorLimit : ℕ)
+pub record Reducible (u : Unfinished) (e : List ℕ) (c : List ℤ) (places heads : List ℕ) (s g : List ℤ)
+    (generators termLimit generatorLimit : ℕ)
     (weights : List ℕ) : Type 0 where
   pub rows-few : length places ≤ 860
   pub exponents-long : length places * 12 ≤ length e

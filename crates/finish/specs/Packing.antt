@@ -76,8 +76,8 @@ module _ (u : Unfinished) (k : Reduced) (e heads : List ℕ) (s g : List ℤ) (v
         centre = n .centre-is i;
         exponents = f .exponents-are i;
         coefficients = (n .coefficients-are
-        ∙ coefficients-array s (k .terms) (λ j. keepExponents p (ts j)) (λ j. refl) 240
-        ∙ ap (λ (l : List Term). tab 240 (λ x. at (getD l (x / 6) noTerm .coefficients) (x % 6))) (sym spelled)) i;
+            ∙ coefficients-array s (k .terms) (λ j. keepExponents p (ts j)) (λ j. refl) 240
+            ∙ ap (λ (l : List Term). tab 240 (λ x. at (getD l (x / 6) noTerm .coefficients) (x % 6))) (sym spelled)) i;
         vectors = n .vectors-are i;
         radii = n .radii-are i;
       }

@@ -116,8 +116,7 @@ module _ (weights : List ℕ) (h q : ℕ) (s : Zonotope) (n : Narrow s) where
       let e₂ = ap dropZeroTerms (collectTerms-wide s n) ∙ dropZeroTerms-wide s₁ n₁ in
       let e₃ = ap dropZeroGenerators e₂ ∙ dropZeroGenerators-wide s₂ n₂ in
       let e₄ = ap foldHigh e₃ ∙ foldHigh-wide s₃ n₃ in
-      let e₅ = ap (foldTerms weights h) e₄ ∙ foldTerms-wide s₄ n₄ weights h in
-      (
+      let e₅ = ap (foldTerms weights h) e₄ ∙ foldTerms-wide s₄ n₄ weights h in (
         ap (foldGenerators weights q) e₅ ∙ foldGenerators-wide s₅ n₅ weights q,
         lessened-narrow (small-generators weights q s₅) n₅,
       )

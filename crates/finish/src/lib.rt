@@ -39,13 +39,37 @@ pub struct Finished {
 
 // The result with the first places.len() rows of e and c as its terms and the first rows of g as its generators, finished. `places`,
 // `heads` and s are work space.
-pub fn finish(u: Unfinished, e: &[u8], c: &[i64], places: &mut [u16], heads: &mut [u16], s: &mut [i64], g: &mut [i64], generators: usize, term_limit: usize, generator_limit: usize, weights: [u64; 6]) -> Finished
+pub fn finish(
+    u: Unfinished,
+    e: &[u8],
+    c: &[i64],
+    places: &mut [u16],
+    heads: &mut [u16],
+    s: &mut [i64],
+    g: &mut [i64],
+    generators: usize,
+    term_limit: usize,
+    generator_limit: usize,
+    weights: [u64; 6],
+) -> Finished
     requires { ⌜ Reducible u (now e) (now c) (now places) (now heads) (now s) (now g) generators «term_limit» «generator_limit» weights
         × Widened (held u (now e) (now c) (length (now places)) (now g) generators) ⌝ }
     ensures { λ r. ⌜ r ≡ finishedAs (finish weights «term_limit» «generator_limit»
         (held u (now (e .entry)) (now (c .entry)) (length (now (places .entry))) (now (g .entry)) generators)) ⌝ }
 {
-    let k = reduce(u, e, c, places, heads, s, g, generators, term_limit, generator_limit, weights);
+    let k = reduce(
+        u,
+        e,
+        c,
+        places,
+        heads,
+        s,
+        g,
+        generators,
+        term_limit,
+        generator_limit,
+        weights,
+    );
     if span::too_wide(u, k, s, g) {
         let set = zonotope::empty();
         return Finished { narrow: false, set };
@@ -55,7 +79,19 @@ pub fn finish(u: Unfinished, e: &[u8], c: &[i64], places: &mut [u16], heads: &mu
 }
 
 // All stages of finishing but the last.
-fn reduce(u: Unfinished, e: &[u8], c: &[i64], places: &mut [u16], heads: &mut [u16], s: &mut [i64], g: &mut [i64], generators: usize, term_limit: usize, generator_limit: usize, weights: [u64; 6]) -> Reduced
+fn reduce(
+    u: Unfinished,
+    e: &[u8],
+    c: &[i64],
+    places: &mut [u16],
+    heads: &mut [u16],
+    s: &mut [i64],
+    g: &mut [i64],
+    generators: usize,
+    term_limit: usize,
+    generator_limit: usize,
+    weights: [u64; 6],
+) -> Reduced
     requires { ⌜ Reducible u (now e) (now c) (now places) (now heads) (now s) (now g) generators «term_limit» «generator_limit» weights ⌝ }
     ensures { λ r. ⌜ Holds u r (now (e .entry)) (now (heads .exit)) (now (s .exit)) (now (g .exit))
         (reduced weights «term_limit» «generator_limit»
@@ -63,7 +99,18 @@ fn reduce(u: Unfinished, e: &[u8], c: &[i64], places: &mut [u16], heads: &mut [u
 {
     let n = gather(e, c, places, heads, s);
     let m = rows::drop_zero_rows(g, generators);
-    fold_rest(u, e, heads, s, n, g, m, term_limit, generator_limit, weights)
+    fold_rest(
+        u,
+        e,
+        heads,
+        s,
+        n,
+        g,
+        m,
+        term_limit,
+        generator_limit,
+        weights,
+    )
 }
 
 // The rows of e and c as terms: sorted, equal ones added, all-zero ones dropped. The answer is how many there are.
@@ -79,7 +126,18 @@ fn gather(e: &[u8], c: &[i64], places: &mut [u16], heads: &mut [u16], s: &mut [i
 }
 
 // Terms with an exponent that is too large are folded, then the smallest terms and the smallest generators until the limits are met.
-fn fold_rest(u: Unfinished, e: &[u8], heads: &mut [u16], s: &mut [i64], n: usize, g: &mut [i64], m: usize, term_limit: usize, generator_limit: usize, weights: [u64; 6]) -> Reduced
+fn fold_rest(
+    u: Unfinished,
+    e: &[u8],
+    heads: &mut [u16],
+    s: &mut [i64],
+    n: usize,
+    g: &mut [i64],
+    m: usize,
+    term_limit: usize,
+    generator_limit: usize,
+    weights: [u64; 6],
+) -> Reduced
     requires { ⌜ Ready (now e) (now heads) (now s) n × Foldable u (now g) m «term_limit» «generator_limit» weights ⌝ }
     ensures { λ r. ⌜ Holds u r (now (e .entry)) (now (heads .exit)) (now (s .exit)) (now (g .exit))
         (foldGenerators weights «generator_limit» (foldTerms weights «term_limit» (foldHigh
@@ -91,11 +149,25 @@ fn fold_rest(u: Unfinished, e: &[u8], heads: &mut [u16], s: &mut [i64], n: usize
     let low = select::fold_high(e, heads, s, n, centre, radii);
     let low_centre = low.centre;
     let low_radii = low.radii;
-    let few = select::fold_terms(e, heads, s, low.count, term_limit, weights, low_centre, low_radii);
+    let few = select::fold_terms(
+        e,
+        heads,
+        s,
+        low.count,
+        term_limit,
+        weights,
+        low_centre,
+        low_radii,
+    );
     let few_centre = few.centre;
     let few_radii = few.radii;
     let kept = select::fold_generators(g, m, generator_limit, weights, few_centre, few_radii);
     let kept_centre = kept.centre;
     let kept_radii = kept.radii;
-    Reduced { terms: few.count, generators: kept.count, centre: kept_centre, radii: kept_radii }
+    Reduced {
+        terms: few.count,
+        generators: kept.count,
+        centre: kept_centre,
+        radii: kept_radii,
+    }
 }

@@ -13,7 +13,14 @@ ghost use Rattle.finish.specs.Numbers.{WithinSpan, Narrowable, Narrowed}
 ghost use Rattle.finish.specs.Packing.{Packable};
 
 // The record of the set without the factors that occur in no term.
-pub fn pack(u: super::Unfinished, k: super::Reduced, e: &[u8], heads: &[u16], s: &[i64], g: &[i64]) -> zonotope::PolyZonotope
+pub fn pack(
+    u: super::Unfinished,
+    k: super::Reduced,
+    e: &[u8],
+    heads: &[u16],
+    s: &[i64],
+    g: &[i64],
+) -> zonotope::PolyZonotope
     requires { ⌜ Packable u k (now e) (now heads) (now s) (now g) ⌝ }
     ensures { λ r. ⌜ r ≡ pack (dropUnused (heldBy u k (now (e .entry)) (now (heads .entry)) (now (s .entry)) (now (g .entry)))) ⌝ }
 {
@@ -62,7 +69,12 @@ fn narrow_all(k: super::Reduced, s: &[i64], g: &[i64]) -> Numbers
     narrow_numbers(&mut vectors, g, k.generators * 6);
     let large = k.radii;
     let radii = narrow_radii(large);
-    Numbers { centre, coefficients, vectors, radii }
+    Numbers {
+        centre,
+        coefficients,
+        vectors,
+        radii,
+    }
 }
 
 // The first n places of `out` become the first n numbers of s.

@@ -16,8 +16,7 @@ fold-terms-requires : tie.Need-fold-terms-requires
 fold-terms-requires c κs =
     let a = c .before .before .before .before .before .before .before in
     let s = a .before .before .before .before .before .before .before in
-    let v = a .fold-high .ensures in
-    (
+    let v = a .fold-high .ensures in (
       v .ready,
       s .pre .1 .weights-small,
       small-mono (centre-after 860 (v .bounded) (s .pre .0 .few) (s .pre .1 .centre-small)) (omega arith),
@@ -31,14 +30,15 @@ fold-generators-requires c κs =
     let s = a .before .before .before .before .before .before .before in
     let v = a .fold-high .ensures in
     let w = b .fold-terms .ensures .0 in
-    let few = s .pre .1 .generators-few in
-    (
+    let few = s .pre .1 .generators-few in (
       omega (arith, few),
       s .pre .1 .generators-long,
       s .pre .1 .generators-small,
       s .pre .1 .weights-small,
-      small-mono (centre-after 860 (w .bounded) (v .ready .few) (centre-after 860 (v .bounded) (s .pre .0 .few) (s .pre .1 .centre-small))) (omega arith),
-      under-mono (radii-after 860 (w .bounded) (v .ready .few) (radii-after 860 (v .bounded) (s .pre .0 .few) (s .pre .1 .radii-small))) (omega arith),
+      small-mono (centre-after 860 (w .bounded) (v .ready .few)
+          (centre-after 860 (v .bounded) (s .pre .0 .few) (s .pre .1 .centre-small))) (omega arith),
+      under-mono (radii-after 860 (w .bounded) (v .ready .few) (radii-after 860 (v .bounded) (s .pre .0 .few) (s .pre .1 .radii-small)))
+          (omega arith),
     )
 
 same-length : tie.Need-same-length
@@ -61,7 +61,8 @@ returns c =
     let x = d .fold-generators .ensures in
     let terms-few = w .1 in
     let generators-few = x .1 in
-    rest-holds (s .args .u) (s .args .heads .now) (s .args .s .now) (s .args .g .now) (s .args .weights) (s .args .term-limit) (s .args .generator-limit)
+    rest-holds (s .args .u) (s .args .heads .now) (s .args .s .now) (s .args .g .now) (s .args .weights) (s .args .term-limit)
+    (s .args .generator-limit)
     v (w .0) (x .0)
     (s .pre .0 .few) (omega (arith, terms-few, s .pre .1 .term-limit)) (s .pre .1 .generators-few)
     (omega (arith, generators-few, s .pre .1 .generator-limit)) (s .pre .1 .generators-long)

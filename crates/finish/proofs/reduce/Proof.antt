@@ -22,8 +22,7 @@ fold-rest-requires c κs =
     let s = a .before .before .before .before .before .before .before in
     let z = b .drop-zero-rows .ensures in
     let few = s .pre .generators-few in
-    let long = s .pre .generators-long in
-    (
+    let long = s .pre .generators-long in (
       a .gather .ensures .ready,
       record {
         generators-few = omega (arith, z .0, few);

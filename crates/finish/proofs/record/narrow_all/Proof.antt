@@ -49,7 +49,8 @@ returns c =
     let s = c .before .before .before .before .before .before .before .before .before .before .before .before .before .before .before in
     let k = s .args .k in
     record {
-      centre-is = c .before .before .before .before .before .before .before .before .before .before .before .narrow-numbers .ensures ∙ written-all _ (pos 0) 6 (at (k .centre)) refl;
+      centre-is = c .before .before .before .before .before .before .before .before .before .before .before .narrow-numbers .ensures
+          ∙ written-all _ (pos 0) 6 (at (k .centre)) refl;
       coefficients-are =
           c .before .before .before .before .before .before .before .narrow-numbers2 .ensures
           ∙ numbers-array _ 240 (s .args .s .now) (k .terms) refl (same-at (pos 0) 240) (omega (arith, s .pre .terms-few));

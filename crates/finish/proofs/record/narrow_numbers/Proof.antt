@@ -51,8 +51,7 @@ loop-again c =
     let x = at .loop .x in
     let v = getD (at .before .args .s .now) x (pos 0) in
     let r = got32 (c .narrow .ensures ∙ read64 v (c .before .v .given)) (c .narrow .ok) in
-    let e : 0 + x ≡ x = omega arith in
-    (
+    let e : 0 + x ≡ x = omega arith in (
       omega arith,
       ap (λ (i : ℕ). set (at .loop .out) i (toZ w32 (ofZ w32 (c .narrow .result)))) (sym e)
           ∙ write-again _ 0 _ (at .loop .out) x _ (at .loop .inv .1) r,

@@ -43,8 +43,11 @@ loop-again : tie.Need-loop-again Inv-loop μ-loop
 loop-again c =
     let at = c .before in
     let i = at .loop .i in
-    let e : 0 + i ≡ i = omega arith in
-    (omega arith, ap (λ (j : ℕ). set (at .loop .out) j (getD (at .before .args .t1) i 0)) (sym e) ∙ write-again _ 0 _ (at .loop .out) i _ (at .loop .inv .1) refl)
+    let e : 0 + i ≡ i = omega arith in (
+      omega arith,
+      ap (λ (j : ℕ). set (at .loop .out) j (getD (at .before .args .t1) i 0)) (sym e)
+          ∙ write-again _ 0 _ (at .loop .out) i _ (at .loop .inv .1) refl,
+    )
 
 returns : tie.Need-returns Inv-loop μ-loop
 returns c =

@@ -15,7 +15,8 @@ returns c =
     let s = c .before .before .before .before .before .before .before .before .before .before .before in
     let g = s .args in
     packed (g .u) (g .k) (g .e .now) (g .heads .now) (g .s .now) (g .g .now) (s .pre)
-    (c .before .before .before .before .before .before .before .drop-unused .ensures (g .s .now)) (c .before .before .before .before .narrow-all .ensures)
+    (c .before .before .before .before .before .before .before .drop-unused .ensures (g .s .now))
+    (c .before .before .before .before .narrow-all .ensures)
 
 pub pack-spec : {M : Type 1} → statement M
 pack-spec =

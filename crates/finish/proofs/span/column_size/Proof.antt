@@ -58,8 +58,7 @@ loop-again c =
     let x = at .loop .t * 6 + g .i in
     let z = getD (g .s .now) x (pos 0) in
     let e : c .size .result ≡ natAbs z = c .size .ensures ∙ ap natAbs (read64 z (c .before .x .given)) in
-    let few = at .loop .inv .2 in
-    (
+    let few = at .loop .inv .2 in (
       omega arith,
       ap₂ _+_ (at .loop .inv .1) e ∙ sym (upto-suc 0 _+_ (λ t. natAbs (getD (g .s .now) (t * 6 + g .i) (pos 0))) (at .loop .t)),
       omega (arith, few, at .before .pre .3 .small x),
@@ -68,8 +67,7 @@ loop-again c =
 returns : tie.Need-returns Inv-loop μ-loop
 returns c =
     let at = c .before in
-    let e : at .loop .t ≡ at .before .args .n = omega arith in
-    (
+    let e : at .loop .t ≡ at .before .args .n = omega arith in (
       at .loop .inv .1 ∙ ap (λ (t : ℕ). columnSize (at .before .args .s .now) t (at .before .args .i)) e,
       omega (arith, at .loop .inv .2),
     )

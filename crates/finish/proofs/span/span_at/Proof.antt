@@ -11,17 +11,21 @@ use Rattle.finish.proofs.span.span_at.Statement.{statement}
 use Rattle.finish.proofs.span.span_at.Tie as tie
 
 -- the size of the centre's number
-size-is : (c : tie.After-size) → c .size .result ≡ natAbs (getD (c .before .before .before .before .before .before .args .k .centre) (c .before .before .before .before .before .before .args .i) (pos 0))
+size-is : (c : tie.After-size) → c .size .result ≡ natAbs (getD (c .before .before .before .before .before .before .args .k .centre)
+    (c .before .before .before .before .before .before .args .i) (pos 0))
 size-is c =
     c .size .ensures
-    ∙ ap natAbs (read64 (getD (c .before .before .before .before .before .before .args .k .centre) (c .before .before .before .before .before .before .args .i) (pos 0)) (c .before .x .given))
+    ∙ ap natAbs (read64 (getD (c .before .before .before .before .before .before .args .k .centre)
+    (c .before .before .before .before .before .before .args .i) (pos 0)) (c .before .x .given))
 
 -- the whole sum fits
 sum-fits : (c : tie.After-size) → c .size .result + c .before .before .before .column-size .result + c .before .before .column-size2 .result
-    + getD (c .before .before .before .before .before .before .args .k .radii) (c .before .before .before .before .before .before .args .i) 0 < 2 ^ 63
+    + getD (c .before .before .before .before .before .before .args .k .radii)
+    (c .before .before .before .before .before .before .args .i) 0 < 2 ^ 63
 sum-fits c =
     rw (size-is c)
-    (span-fits (c .before .before .before .before .before .before .pre .1) (c .before .before .before .before .before .before .args .i) _ _ (c .before .before .before .column-size .ensures .1) (c .before .before .column-size2 .ensures .1))
+    (span-fits (c .before .before .before .before .before .before .pre .1) (c .before .before .before .before .before .before .args .i) _
+    _ (c .before .before .before .column-size .ensures .1) (c .before .before .column-size2 .ensures .1))
 
 column-size-requires : tie.Need-column-size-requires
 column-size-requires c κs = search needs

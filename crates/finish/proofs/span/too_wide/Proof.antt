@@ -26,8 +26,8 @@ returns c =
     let at = c .before .before .before in
     let s = at .before in
     λ e heads.
-        sym (too-wide (s .args .u) (s .args .k) e heads (s .args .s .now) (s .args .g .now) (s .pre .0) (at .loop .i) (search needs)
-        (omega (arith, c .before .span-at .ensures, c .if1 .taken)))
+    sym (too-wide (s .args .u) (s .args .k) e heads (s .args .s .now) (s .args .g .now) (s .pre .0) (at .loop .i) (search needs)
+    (omega (arith, c .before .span-at .ensures, c .if1 .taken)))
 
 add-i : tie.Need-add-i Inv-loop μ-loop
 add-i c = search needs
@@ -45,8 +45,8 @@ returns-2 c =
     let at = c .before in
     let s = at .before in
     λ e heads.
-        sym (not-too-wide (s .args .u) (s .args .k) e heads (s .args .s .now) (s .args .g .now) (s .pre .0)
-        (λ j l. at .loop .inv .1 j (omega arith)))
+    sym (not-too-wide (s .args .u) (s .args .k) e heads (s .args .s .now) (s .args .g .now) (s .pre .0)
+    (λ j l. at .loop .inv .1 j (omega arith)))
 
 pub too-wide-spec : {M : Type 1} → statement M
 too-wide-spec =
