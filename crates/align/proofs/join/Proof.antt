@@ -16,10 +16,10 @@ join-generators-requires c κs =
     (p .0, p .1, p .3 .generators-long, p .3 .generators-small)
 
 add-centres-requires : tie.Need-add-centres-requires
-add-centres-requires c κs = search needs
+add-centres-requires c κs = tt
 
 add-radii-requires : tie.Need-add-radii-requires
-add-radii-requires c κs = search needs
+add-radii-requires c κs = tt
 
 same-length : tie.Need-same-length
 same-length c = search needs

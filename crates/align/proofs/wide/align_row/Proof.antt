@@ -23,8 +23,8 @@ abbrev μ-loop : tie.MeasureT-loop
 μ-loop exponents t ids p all n e₀ to i₀ k₀ e i k = 12 - k
 
 -- where a factor is found, it is one of the first p
-within : (c : tie.After-meets Inv-loop μ-loop) → c .meets .result ≡ true →
-    c .before .before .loop .i < c .before .before .before .before .args .p
+within : (c : tie.After-meets Inv-loop μ-loop) → c .meets .result ≡ true
+    → c .before .before .loop .i < c .before .before .before .before .args .p
 within c m =
     let s = c .before .before .before .before .args in
     met-within (s .exponents .now) (s .p) (s .ids .now) (s .n) (s .all .now) (s .t) _ _ (sym (c .meets .ensures) ∙ m)
