@@ -1,0 +1,91 @@
+// The sets of the examples.
+ghost use Prim.Native.Nat.{_≤_};
+use zonotope::PolyZonotope;
+
+// In one coordinate: factor 1 to a power.
+pub fn power(exponent: u8) -> PolyZonotope {
+    let mut s = line(1);
+    s.exponents[0] = exponent;
+    s
+}
+
+// In one coordinate: factor 1 times a number.
+pub fn line(slope: i32) -> PolyZonotope {
+    let mut s = zonotope::empty();
+    s.dimension = 1;
+    s.factors = 1;
+    s.terms = 1;
+    s.identifiers[0] = 1;
+    s.exponents[0] = 1;
+    s.coefficients[0] = slope;
+    s
+}
+
+// In one coordinate: the sum of the factors 1 to 6. In the order of terms the last factor comes first.
+pub fn first_six() -> PolyZonotope {
+    let mut s = zonotope::empty();
+    s.dimension = 1;
+    s.factors = 6;
+    s.terms = 6;
+    s.identifiers[0] = 1;
+    s.identifiers[1] = 2;
+    s.identifiers[2] = 3;
+    s.identifiers[3] = 4;
+    s.identifiers[4] = 5;
+    s.identifiers[5] = 6;
+    s.exponents[5] = 1;
+    s.exponents[16] = 1;
+    s.exponents[27] = 1;
+    s.exponents[38] = 1;
+    s.exponents[49] = 1;
+    s.exponents[60] = 1;
+    s.coefficients[0] = 1;
+    s.coefficients[6] = 1;
+    s.coefficients[12] = 1;
+    s.coefficients[18] = 1;
+    s.coefficients[24] = 1;
+    s.coefficients[30] = 1;
+    s
+}
+
+// The same with the factors 7 to 12.
+pub fn next_six() -> PolyZonotope {
+    let mut s = first_six();
+    s.identifiers[0] = 7;
+    s.identifiers[1] = 8;
+    s.identifiers[2] = 9;
+    s.identifiers[3] = 10;
+    s.identifiers[4] = 11;
+    s.identifiers[5] = 12;
+    s
+}
+
+// In one coordinate: factor 13.
+pub fn thirteenth() -> PolyZonotope {
+    let mut s = line(1);
+    s.identifiers[0] = 13;
+    s
+}
+
+// In two coordinates, with the factors a and b (identifiers 1 and 2), one independent part p and the radius 2:
+// 10 - 4 a b + 9 a² + 3 p, and -5 + 6 a b.
+pub fn curved() -> PolyZonotope {
+    let mut s = zonotope::empty();
+    s.dimension = 2;
+    s.factors = 2;
+    s.terms = 2;
+    s.generators = 1;
+    s.identifiers[0] = 1;
+    s.identifiers[1] = 2;
+    s.centre[0] = 10;
+    s.centre[1] = -5;
+    s.exponents[0] = 1;
+    s.exponents[1] = 1;
+    s.coefficients[0] = -4;
+    s.coefficients[1] = 6;
+    s.exponents[12] = 2;
+    s.coefficients[6] = 9;
+    s.vectors[0] = 3;
+    s.radii[0] = 2;
+    s
+}

@@ -1,0 +1,64 @@
+-- `finishing::finish_rows` meets its contract.
+use mathlib.Core.Path.{ap, _∙_}
+use Rattle.model.specs.Limits.{standardWeights}
+use Rattle.model.specs.Finish.{finish}
+use Rattle.finish.specs.Held.{held, finishedAs}
+use Rattle.sums.specs.Finishing.{lent-length, finish-asks}
+use borrow.Author.Needs.{needs}
+use Rattle.sums.proofs.finishing.finish_rows.Statement.{statement}
+use Rattle.sums.proofs.finishing.finish_rows.Tie as tie
+
+sub-finish : tie.Need-sub-finish
+sub-finish c = search needs
+
+part-places-start : tie.Need-part-places-start
+part-places-start c = search needs
+
+part-places-end : tie.Need-part-places-end
+part-places-end c = search needs
+
+sub-finish-2 : tie.Need-sub-finish-2
+sub-finish-2 c = search needs
+
+part-heads-start : tie.Need-part-heads-start
+part-heads-start c = search needs
+
+part-heads-end : tie.Need-part-heads-end
+part-heads-end c = search needs
+
+slice-aggregate-finish : tie.Need-slice-aggregate-finish
+slice-aggregate-finish c = search needs
+
+finish-requires : tie.Need-finish-requires
+finish-requires c κs =
+    let s = c .before .before .before .before .before in
+    finish-asks (s .args .u) (s .args .e .now) (s .args .c .now) (s .args .rows) (s .args .g .now) (s .args .generators) (s .pre .0)
+    (s .pre .1) (s .pre .2)
+
+same-length : tie.Need-same-length
+same-length c = search needs
+
+returns : tie.Need-returns
+returns c =
+    let f = c .before .before .before .before in
+    let s = f .before .before .before .before .before .before in
+    let a = s .args in
+    f .finish .ensures
+    ∙ ap (λ n. finishedAs (finish standardWeights (a .term-limit) (a .generator-limit)
+    (held (a .u) (a .e .now) (a .c .now) n (a .g .now) (a .generators))))
+    (lent-length (a .rows) (s .pre .0 .rows-few))
+
+pub finish-rows-spec : {M : Type 1} → statement M
+finish-rows-spec =
+    tie.close
+    (tie.spec
+    sub-finish
+    part-places-start
+    part-places-end
+    sub-finish-2
+    part-heads-start
+    part-heads-end
+    slice-aggregate-finish
+    finish-requires
+    same-length
+    returns)

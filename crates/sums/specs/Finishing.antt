@@ -1,0 +1,132 @@
+-- What finishing asks of a result in rows, and the answer for what it gives.
+use mathlib.Core.Path.{_≡_, refl, sym, ap, ap₂, subst, _∙_}
+use mathlib.Core.List.{List}
+use mathlib.Core.Bool.{Bool, true, false, cond, true≢false}
+use Prim.Native.Nat.{ℕ, zero, suc, _-_, _*_, _^_, _≤_}
+use native.Mathlib.Omega.{arith}
+use lib.ListN.{length, getD, take, replicate, length-replicate}
+use lib.Seq.{length-take-le}
+use lib.IntN.{ℤ, pos, natAbs}
+use Rattle.rational.specs.Sum.{All, none, more}
+use Rattle.model.specs.Set.{Zonotope}
+use Rattle.model.specs.Valid.{tooWide}
+use Rattle.model.specs.Finish.{finish}
+use Rattle.model.specs.Limits.{standardWeights}
+use Rattle.model.specs.Run.{noSet}
+use Rattle.zonotope.specs.declared.PolyZonotope.{PolyZonotope}
+use Rattle.zonotope.specs.declared.Examined.the-variants.{Accepted, Refused}
+use Rattle.zonotope.specs.Record.{pack}
+use Rattle.rows.specs.Rows.{Small}
+use Rattle.fold.specs.Marks.{same-at}
+use Rattle.fold.specs.Folding.{Under}
+use Rattle.finish.specs.declared.Unfinished.{Unfinished}
+use Rattle.finish.specs.declared.Finished.{Finished}
+use Rattle.finish.specs.Held.{held, Reducible, Widened, finishedAs}
+use Rattle.finish.specs.Wide.{wide}
+use Rattle.finish.specs.WideFinish.{Narrow}
+use Rattle.finish.specs.WideRecord.{finish-pack, finish-tooWide}
+use Rattle.sums.specs.declared.Changed.{Changed}
+use Rattle.sums.specs.Answer.{answered, ofResult, answer-wide, answer-narrow}
+
+-- a result in `rows` rows of e and c and the first rows of g: a set in wide form, with numbers for which nothing overflows
+pub record Finishable (u : Unfinished) (e : List ℕ) (c : List ℤ) (rows : ℕ) (g : List ℤ) (generators : ℕ) : Type 0 where
+  pub rows-few : rows ≤ 80
+  pub exponents-long : rows * 12 ≤ length e
+  pub exponents-few : length e ≤ 10320
+  pub numbers-long : rows * 6 ≤ length c
+  pub generators-few : generators ≤ 48
+  pub generators-long : generators * 6 ≤ length g
+  pub numbers-small : Small (2 ^ 40) c
+  pub generators-small : Small (2 ^ 40) g
+  pub centre-small : Small (2 ^ 40) (u .centre)
+  pub radii-small : Under (2 ^ 40) (u .radii)
+  pub widened : Widened (held u e c rows g generators)
+
+-- ---- the answer for a finished result
+-- the answer for a result by whether it is too wide, and its record
+abbrev finishedBy : Bool → PolyZonotope → Finished
+finishedBy w r = cond w (record { narrow = false; set = pack noSet }) (record { narrow = true; set = r })
+
+module _ (f : Finished) (s : PolyZonotope) (m : Zonotope) (from : f ≡ finishedAs m) where
+  pub settle-narrow : f .narrow ≡ true → _≡_ {A = Changed} (record { outcome = Accepted; set = f .set }) (answered (ofResult m) s m)
+  settle-narrow h = go (tooWide m) refl from
+    where
+      go : (w : Bool) → tooWide m ≡ w → f ≡ finishedBy w (pack m)
+          → _≡_ {A = Changed} (record { outcome = Accepted; set = f .set }) (answered (ofResult m) s m)
+      go true e q = absurd (true≢false (sym h ∙ ap (λ (x : Finished). x .narrow) q))
+      go false e q = answer-narrow s m (f .set) (ap (λ (x : Finished). x .set) q) e
+
+  pub settle-wide : f .narrow ≡ false → _≡_ {A = Changed} (record { outcome = Refused 10; set = s }) (answered (ofResult m) s m)
+  settle-wide h = go (tooWide m) refl from
+    where
+      go : (w : Bool) → tooWide m ≡ w → f ≡ finishedBy w (pack m)
+          → _≡_ {A = Changed} (record { outcome = Refused 10; set = s }) (answered (ofResult m) s m)
+      go true e q = answer-wide s m e
+      go false e q = absurd (true≢false (sym (ap (λ (x : Finished). x .narrow) q) ∙ h))
+
+-- ---- a set in wide form and the set itself are answered alike
+pub finished-wide : (weights : List ℕ) (h q : ℕ) (s : Zonotope) → Narrow s
+    → finishedAs (finish weights h q (wide s)) ≡ finishedAs (finish weights h q s)
+finished-wide weights h q s n = ap₂ finishedBy (finish-tooWide weights h q s n) (finish-pack weights h q s n)
+
+-- so is a result that holds it
+pub finished-held : (weights : List ℕ) (h q : ℕ) (s : Zonotope) → Narrow s → {m : Zonotope} → m ≡ wide s → {f : Finished}
+    → f ≡ finishedAs (finish weights h q m) → f ≡ finishedAs (finish weights h q s)
+finished-held weights h q s n e p = p ∙ ap (λ (m : Zonotope). finishedAs (finish weights h q m)) e ∙ finished-wide weights h q s n
+
+-- ---- the work space that finishing needs, and the weights
+-- numbers that are all 0 are small
+pub zeros-small : {b : ℕ} (n : ℕ) → Small b (replicate n (pos 0))
+zeros-small n = record { small = λ i. omega (arith, ap natAbs (same-at (pos 0) n i)) }
+
+each-under : (b : ℕ) {xs : List ℕ} → All (_≤ b) xs → (i : ℕ) → getD xs i 0 ≤ b
+each-under b none i = omega arith
+each-under b (more p ps) zero = p
+each-under b (more p ps) (suc i) = each-under b ps i
+
+weights-under : Under 1000 standardWeights
+weights-under = let four : 4 ≤ 1000 = omega arith in let one : 1 ≤ 1000 = omega arith in
+    record { under = each-under 1000 (more four (more one (more four (more one (more four (more one none)))))) }
+
+pub reducible : {u : Unfinished} {e : List ℕ} {c : List ℤ} {rows : ℕ} {g : List ℤ} {generators : ℕ} → Finishable u e c rows g generators
+    → {termLimit generatorLimit : ℕ} → termLimit ≤ 40 → generatorLimit ≤ 24
+    → (places heads : List ℕ) (s : List ℤ) → length places ≡ rows → length heads ≡ rows → s ≡ replicate 480 (pos 0)
+    → Reducible u e c places heads s g generators termLimit generatorLimit standardWeights
+reducible f h q places heads s p k z =
+    let few = f .rows-few in
+    let long : length s ≡ 480 = ap length z ∙ length-replicate 480 (pos 0) in
+    record {
+      rows-few = omega arith;
+      exponents-long = rw p (f .exponents-long);
+      exponents-few = f .exponents-few;
+      numbers-long = rw p (f .numbers-long);
+      numbers-small = f .numbers-small;
+      sums-long = omega arith;
+      sums-small = rw z (zeros-small 480);
+      heads-long = k ∙ sym p;
+      generators-few = f .generators-few;
+      generators-long = f .generators-long;
+      generators-small = f .generators-small;
+      centre-small = f .centre-small;
+      radii-small = f .radii-small;
+      weights-small = weights-under;
+      term-limit = h;
+      generator-limit = q;
+    }
+
+-- the part of the work space that is lent for `rows` rows
+abbrev pub lent : ℕ → List ℕ
+lent rows = take (rows - 0) (replicate 80 0)
+
+pub lent-length : (rows : ℕ) → rows ≤ 80 → length (lent rows) ≡ rows
+lent-length rows h = length-take-le (rows - 0) (replicate 80 0) (omega (arith, length-replicate {A = ℕ} 80 0)) ∙ omega arith
+
+pub finish-asks : (u : Unfinished) (e : List ℕ) (c : List ℤ) (rows : ℕ) (g : List ℤ) (generators : ℕ) → Finishable u e c rows g generators
+    → {termLimit generatorLimit : ℕ} → termLimit ≤ 40 → generatorLimit ≤ 24
+    → Reducible u e c (lent rows) (lent rows) (replicate 480 (pos 0)) g generators termLimit generatorLimit standardWeights
+    × Widened (held u e c (length (lent rows)) g generators)
+finish-asks u e c rows g generators f h q =
+    let p = lent-length rows (f .rows-few) in (
+      reducible f h q (lent rows) (lent rows) (replicate 480 (pos 0)) p p refl,
+      subst (λ (n : ℕ). Widened (held u e c n g generators)) (sym p) (f .widened),
+    )

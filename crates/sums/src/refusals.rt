@@ -1,0 +1,189 @@
+// The causes that refuse a call before it works, each a test, and their order.
+ghost use mathlib.Core.Path.{_≡_};
+ghost use mathlib.Core.Bool.{not, _||_};
+ghost use Prim.Native.Nat.{_≤_};
+ghost use lib.Dec.{ltb};
+ghost use lib.ListN.{getD};
+ghost use Rattle.whole.specs.Tab.{tab, any};
+ghost use Rattle.model.specs.Limits.{maxFactors, maxTerms, maxGenerators, maxDisturbance};
+ghost use Rattle.model.specs.Field.{badDimension};
+ghost use Rattle.model.specs.Run.{firstOf};
+ghost use Rattle.model.specs.Library.{ofSecond, badNext};
+ghost use Rattle.zonotope.specs.Record.{view, given};
+ghost use Rattle.zonotope.specs.Shape.{Sized};
+ghost use Rattle.zonotope.specs.Answer.{examined, orElse};
+ghost use Rattle.sums.specs.Answer.{isRefused};
+ghost use Rattle.sums.specs.Causes.{ofRadii, beforeDisturbing, ofLimits, beforeReducing, beforeSumming, ofNext};
+use zonotope::Examined;
+use zonotope::PolyZonotope;
+
+// The largest radius of a disturbance.
+const MAX_DISTURBANCE: u32 = 1048576;
+
+// The first and the last of the next identifiers.
+const FIRST_FRESH: u32 = 65536;
+
+const LAST_FRESH: u32 = 1999999988;
+
+// Whether an answer refuses.
+pub fn is_refused(o: Examined) -> bool
+    ensures { λ r. ⌜ r ≡ isRefused o ⌝ }
+{
+    match o {
+        Examined::Accepted => false,
+        Examined::Refused(_) => true,
+    }
+}
+
+// ---- the order
+
+// The first cause that refuses a disturbance before its result is looked at: the set, then the radii.
+pub fn before_disturbing(s: PolyZonotope, n: usize, radii: &[u32]) -> Examined
+    ensures { λ r. ⌜ r ≡ examined (beforeDisturbing n (now (radii .entry)) (given s)) ⌝ }
+    ensures sized { λ r. ⌜ (r ≡ Examined.Accepted → Sized s) ⌝ }
+{
+    let o = zonotope::examine(s);
+    if is_refused(o) {
+        return o;
+    }
+    of_radii(s.dimension, n, radii)
+}
+
+// The first cause that refuses radii for n coordinates.
+fn of_radii(dimension: usize, n: usize, radii: &[u32]) -> Examined
+    ensures { λ r. ⌜ r ≡ examined (firstOf (ofRadii n (now (radii .entry)) dimension)) ⌝ }
+{
+    if bad_dimension(n) {
+        return Examined::Refused(4);
+    }
+    if radii.len() != n {
+        return Examined::Refused(3);
+    }
+    if n != dimension {
+        return Examined::Refused(5);
+    }
+    if radii_out(radii) {
+        return Examined::Refused(6);
+    }
+    Examined::Accepted
+}
+
+// The first cause that refuses a reduction before its result is looked at: the set, then the limits.
+pub fn before_reducing(s: PolyZonotope, term_limit: usize, generator_limit: usize) -> Examined
+    ensures { λ r. ⌜ r ≡ examined (beforeReducing «term_limit» «generator_limit» (given s)) ⌝ }
+    ensures sized { λ r. ⌜ (r ≡ Examined.Accepted → Sized s) ⌝ }
+{
+    let o = zonotope::examine(s);
+    if is_refused(o) {
+        return o;
+    }
+    of_limits(term_limit, generator_limit)
+}
+
+// The cause that refuses a reduction's limits.
+fn of_limits(term_limit: usize, generator_limit: usize) -> Examined
+    ensures { λ r. ⌜ r ≡ examined (firstOf (ofLimits «term_limit» «generator_limit»)) ⌝ }
+{
+    if limits_out(term_limit, generator_limit) {
+        return Examined::Refused(4);
+    }
+    Examined::Accepted
+}
+
+// The first cause that refuses two sets: the first one, then the second.
+pub fn before_summing(first: PolyZonotope, second: PolyZonotope) -> Examined
+    ensures { λ r. ⌜ r ≡ examined (beforeSumming (given first) (given second)) ⌝ }
+    ensures sized { λ r. ⌜ (r ≡ Examined.Accepted → Sized first × Sized second) ⌝ }
+{
+    let o = zonotope::examine(first);
+    if is_refused(o) {
+        return o;
+    }
+    of_second(first, second)
+}
+
+// The first cause that refuses the second set: 5 stands between its counts and the rest.
+fn of_second(first: PolyZonotope, second: PolyZonotope) -> Examined
+    ensures { λ r. ⌜ r ≡ examined (firstOf (ofSecond (given first) (given second))) ⌝ }
+    ensures sized { λ r. ⌜ (r ≡ Examined.Accepted → Sized second) ⌝ }
+{
+    if zonotope::bad_counts(second) {
+        return Examined::Refused(4);
+    }
+    if second.dimension != first.dimension {
+        return Examined::Refused(5);
+    }
+    zonotope::examine(second)
+}
+
+// The same for an independent sum, then the next identifier.
+pub fn before_renumbering(first: PolyZonotope, second: PolyZonotope, next: u32) -> Examined
+    ensures { λ r. ⌜ r ≡ examined (orElse (beforeSumming (given first) (given second)) (ofNext next (view first))) ⌝ }
+    ensures sized { λ r. ⌜ (r ≡ Examined.Accepted → Sized first × Sized second) ⌝ }
+{
+    let o = before_summing(first, second);
+    if is_refused(o) {
+        return o;
+    }
+    if bad_next(first, next) {
+        return Examined::Refused(11);
+    }
+    Examined::Accepted
+}
+
+// ---- the tests
+
+// 4: whether there can't be n coordinates.
+fn bad_dimension(n: usize) -> bool
+    ensures { λ r. ⌜ r ≡ badDimension n ⌝ }
+{
+    (n == 0) | (zonotope::MAX_DIMENSION < n)
+}
+
+// 4: whether a reduction's limit is more than a set can have.
+fn limits_out(term_limit: usize, generator_limit: usize) -> bool
+    ensures { λ r. ⌜ r ≡ (ltb maxTerms «term_limit» || ltb maxGenerators «generator_limit») ⌝ }
+{
+    (zonotope::MAX_TERMS < term_limit) | (zonotope::MAX_GENERATORS < generator_limit)
+}
+
+// 6: whether one of the radii is too large.
+fn radii_out(radii: &[u32]) -> bool
+    ensures { λ r. ⌜ r ≡ any (ltb maxDisturbance) (now (radii .entry)) ⌝ }
+{
+    for i in 0..radii.len() {
+        if MAX_DISTURBANCE < radii[i] {
+            return true;
+        }
+    }
+    false
+}
+
+// 9: whether there are more factors than a set can have.
+pub fn too_many(count: usize) -> bool
+    ensures { λ r. ⌜ r ≡ ltb maxFactors count ⌝ }
+{
+    zonotope::MAX_FACTORS < count
+}
+
+// 11: whether the next identifier is out of its range or not above the set's identifiers.
+fn bad_next(s: PolyZonotope, next: u32) -> bool
+    requires { ⌜ s .factors ≤ 12 ⌝ }
+    ensures { λ r. ⌜ r ≡ badNext next (view s) ⌝ }
+{
+    let p = s.factors;
+    (next < FIRST_FRESH) | (LAST_FRESH < next) | reaches(&s.identifiers, p, next)
+}
+
+// Whether one of the first p identifiers is not below the next one.
+fn reaches(ids: &[u32; 12], p: usize, next: u32) -> bool
+    requires { ⌜ p ≤ 12 ⌝ }
+    ensures { λ r. ⌜ r ≡ any (λ k. not (ltb k next)) (tab p (λ i. getD (now (ids .entry)) i 0)) ⌝ }
+{
+    for i in 0..p {
+        if next <= ids[i] {
+            return true;
+        }
+    }
+    false
+}
