@@ -1,0 +1,170 @@
+// Linear and quadratic forms on rows of six. A step's entries are brought to rows of six once, with 0 where it has none, so that every loop
+// is six long.
+ghost use mathlib.Core.Path.{_≡_};
+ghost use Prim.Native.Nat.{_+_, _*_, _≤_, _<_};
+ghost use lib.IntN.{_+ℤ_};
+ghost use lib.ListN.{length};
+ghost use Rattle.rows.specs.Rows.{Small};
+ghost use Rattle.model.specs.Set.{at};
+ghost use Rattle.model.specs.Step.{dot};
+ghost use Rattle.forms.specs.Line.{turned, line};
+ghost use Rattle.forms.specs.Tables.{rowOf, formOf};
+ghost use Rattle.forms.specs.Numbers.{tableLimit, lineTable, columnTable};
+ghost use Rattle.forms.specs.Wide.{entry, formEntry, wideConstant, wideLinear, wideQuadratic};
+
+// ---- a step's entries in rows of six
+// The constant of a step.
+pub fn wide_constant(c: &[i32]) -> [i32; 6]
+    ensures { λ r. ⌜ r ≡ wideConstant (now (c .entry)) ⌝ }
+{
+    let mut out = [0i32; 6];
+    for x in 0..6 {
+        let v = number_at(c, x);
+        out[x] = v;
+    }
+    out
+}
+
+// The rows of A.
+pub fn wide_linear(a: &[i32], n: usize) -> [i32; 36]
+    requires { ⌜ n ≤ 6 ⌝ }
+    ensures { λ r. ⌜ r ≡ wideLinear n (now (a .entry)) ⌝ }
+{
+    let mut out = [0i32; 36];
+    for x in 0..36 {
+        let v = entry_at(a, n, x / 6, x % 6);
+        out[x] = v;
+    }
+    out
+}
+
+// The forms of Q.
+pub fn wide_quadratic(q: &[i32], n: usize) -> [i32; 216]
+    requires { ⌜ n ≤ 6 ⌝ }
+    ensures { λ r. ⌜ r ≡ wideQuadratic n (now (q .entry)) ⌝ }
+{
+    let mut out = [0i32; 216];
+    for x in 0..216 {
+        let v = form_entry_at(q, n, x / 36, x / 6 % 6, x % 6);
+        out[x] = v;
+    }
+    out
+}
+
+// The number at place i, 0 past the end.
+fn number_at(xs: &[i32], i: usize) -> i32
+    ensures { λ r. ⌜ r ≡ at (now (xs .entry)) i ⌝ }
+{
+    if i < xs.len() { xs[i] } else { 0 }
+}
+
+// Entry j of row i of rows of n, 0 past them.
+fn entry_at(xs: &[i32], n: usize, i: usize, j: usize) -> i32
+    requires { ⌜ (n ≤ 6) × (i ≤ 36) × (j ≤ 6) ⌝ }
+    ensures { λ r. ⌜ r ≡ entry (now (xs .entry)) n i j ⌝ }
+{
+    if j < n { number_at(xs, i * n + j) } else { 0 }
+}
+
+// Entry l of row j of form i, in forms of n rows of n.
+fn form_entry_at(q: &[i32], n: usize, i: usize, j: usize, l: usize) -> i32
+    requires { ⌜ (n ≤ 6) × (i < 6) × (j < 6) × (l < 6) ⌝ }
+    ensures { λ r. ⌜ r ≡ formEntry (now (q .entry)) n i j l ⌝ }
+{
+    if j < n {
+        entry_at(q, n, i * n + j, l)
+    } else {
+        0
+    }
+}
+
+// ---- products
+// Row s of u times row t of v.
+pub fn dot_rows(u: &[i32], s: usize, v: &[i64], t: usize) -> i64
+    requires { ⌜ (s ≤ 1000) × (t ≤ 1000) × (s * 6 + 6 ≤ length (now u)) × (t * 6 + 6 ≤ length (now v))
+        × Small 1048576 (now u) × Small tableLimit (now v) ⌝ }
+    ensures { λ r. ⌜ r ≡ dot 6 (rowOf (now (u .entry)) s) (rowOf (now (v .entry)) t) ⌝ }
+{
+    let mut sum: i64 = 0;
+    for j in 0..6 {
+        let x = whole::widen(u[s * 6 + j]);
+        let y = v[t * 6 + j];
+        sum = whole::multiply_add(sum, x, y);
+    }
+    sum
+}
+
+// Row i of A times k.
+pub fn dot_linear(a: &[i32; 36], i: usize, k: &[i32; 6]) -> i64
+    requires { ⌜ (i < 6) × Small 32768 (now a) × Small 1048576 (now k) ⌝ }
+    ensures { λ r. ⌜ r ≡ dot 6 (rowOf (now (a .entry)) i) (at (now (k .entry))) ⌝ }
+{
+    let mut sum: i64 = 0;
+    for j in 0..6 {
+        let x = whole::widen(a[i * 6 + j]);
+        let y = whole::widen(k[j]);
+        sum = whole::multiply_add(sum, x, y);
+    }
+    sum
+}
+
+// Q_jl + Q_lj of form i.
+fn both_ways(q: &[i32; 216], i: usize, j: usize, l: usize) -> i64
+    requires { ⌜ (i < 6) × (j < 6) × (l < 6) ⌝ }
+    ensures { λ r. ⌜ r ≡ formOf (now (q .entry)) i j l +ℤ formOf (now (q .entry)) i l j ⌝ }
+{
+    let x = whole::widen(q[(i * 6 + j) * 6 + l]);
+    let y = whole::widen(q[(i * 6 + l) * 6 + j]);
+    whole::add(x, y)
+}
+
+// Place j of (Q + Qᵀ)v, with form i of Q and row t of v.
+fn turned_at(q: &[i32; 216], i: usize, v: &[i32], t: usize, j: usize) -> i64
+    requires { ⌜ (i < 6) × (j < 6) × (t ≤ 100) × (t * 6 + 6 ≤ length (now v)) × Small 32768 (now q) × Small 1048576 (now v) ⌝ }
+    ensures { λ r. ⌜ r ≡ turned 6 (formOf (now (q .entry)) i) (rowOf (now (v .entry)) t) j ⌝ }
+{
+    let mut sum: i64 = 0;
+    for l in 0..6 {
+        let x = both_ways(q, i, j, l);
+        let y = whole::widen(v[t * 6 + l]);
+        sum = whole::multiply_add(sum, x, y);
+    }
+    sum
+}
+
+// ---- what a step's raw numbers are made from
+// The line of each coordinate, in row i.
+pub fn lines(a: &[i32; 36], q: &[i32; 216], k: &[i32; 6]) -> [i64; 36]
+    requires { ⌜ Small 32768 (now a) × Small 32768 (now q) × Small 1048576 (now k) ⌝ }
+    ensures { λ r. ⌜ r ≡ lineTable (now (a .entry)) (now (q .entry)) (now (k .entry)) ⌝ }
+{
+    let mut out = [0i64; 36];
+    for x in 0..36 {
+        let v = line_at(a, q, k, x / 6, x % 6);
+        out[x] = v;
+    }
+    out
+}
+
+// (Q + Qᵀ)v for each coordinate i and each row t of v, in row 40·i + t.
+pub fn columns(q: &[i32; 216], v: &[i32; 240]) -> [i64; 1440]
+    requires { ⌜ Small 32768 (now q) × Small 1048576 (now v) ⌝ }
+    ensures { λ r. ⌜ r ≡ columnTable (now (q .entry)) (now (v .entry)) ⌝ }
+{
+    let mut out = [0i64; 1440];
+    for x in 0..1440 {
+        let y = turned_at(q, x / 240, v, x / 6 % 40, x % 6);
+        out[x] = y;
+    }
+    out
+}
+
+// Place j of the line of coordinate i: 4096·A_j + sum over l of (Q_jl + Q_lj)·k_l.
+fn line_at(a: &[i32; 36], q: &[i32; 216], k: &[i32; 6], i: usize, j: usize) -> i64
+    requires { ⌜ (i < 6) × (j < 6) × Small 32768 (now a) × Small 32768 (now q) × Small 1048576 (now k) ⌝ }
+    ensures { λ r. ⌜ r ≡ line 6 (rowOf (now (a .entry)) i) (formOf (now (q .entry)) i) (rowOf (now (k .entry)) 0) j ⌝ }
+{
+    let x = whole::widen(a[i * 6 + j]);
+    let y = turned_at(q, i, k, 0, j);
+    whole::multiply_add(y, 4096, x)
+}

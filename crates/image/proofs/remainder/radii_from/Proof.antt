@@ -1,0 +1,62 @@
+-- `image::remainder::radii_from` meets its contract: each place is filled in turn.
+use borrow.Author.Needs.{needs}
+use native.Mathlib.Omega.{arith}
+use Prim.Native.Nat.{ℕ, _+_, _-_}
+use lib.ListN.{getD}
+use Rattle.forms.specs.Filling.{Filling, filling-begins, filling-again, filling-ends}
+use Rattle.image.specs.Remainder.{slopeSum, crossSum, roundedUp}
+use Rattle.image.proofs.remainder.radii_from.Statement.{statement}
+use Rattle.image.proofs.remainder.radii_from.Tie as tie
+
+abbrev Inv-loop : tie.InvT-loop
+Inv-loop lines q d r w counts out₀ x₀ out x = Filling 6 (λ (i : ℕ). roundedUp (slopeSum lines w i + crossSum q d r i) (getD counts i 0))
+    out₀ x out
+
+abbrev μ-loop : tie.MeasureT-loop
+μ-loop lines q d r w counts out₀ x₀ out x = 6 - x
+
+abbrev F : tie.Start Inv-loop μ-loop → ℕ → ℕ
+F s = λ (i : ℕ). roundedUp
+    (slopeSum (s .args .lines .now) (s .args .w .now) i + crossSum (s .args .q .now) (s .args .d .now) (s .args .r .now) i)
+    (getD (s .args .counts .now) i 0)
+
+loop-holds : tie.Need-loop-holds Inv-loop μ-loop
+loop-holds c = filling-begins 6 (F c) _ (search needs)
+
+radius-at-requires : tie.Need-radius-at-requires Inv-loop μ-loop
+radius-at-requires c κs = search needs
+
+mul-out : tie.Need-mul-out Inv-loop μ-loop
+mul-out c = search needs
+
+array-write-out : tie.Need-array-write-out Inv-loop μ-loop
+array-write-out c = search needs
+
+add-x : tie.Need-add-x Inv-loop μ-loop
+add-x c = search needs
+
+loop-less : tie.Need-loop-less Inv-loop μ-loop
+loop-less c = search needs
+
+loop-again : tie.Need-loop-again Inv-loop μ-loop
+loop-again c =
+    let l = c .before .before in
+    filling-again 6 (F (l .before)) _ (l .loop .x) (l .loop .out) _ (l .loop .inv) (omega arith) (c .radius-at .ensures)
+
+returns : tie.Need-returns Inv-loop μ-loop
+returns c = let l = c .before in filling-ends 6 (F (l .before)) _ 0 (l .loop .x) (l .loop .out) (l .loop .inv) (omega arith)
+
+pub radii-from-spec : {M : Type 1} → statement M
+radii-from-spec =
+    tie.close
+    (tie.spec
+    Inv-loop
+    μ-loop
+    loop-holds
+    radius-at-requires
+    mul-out
+    array-write-out
+    add-x
+    loop-less
+    loop-again
+    returns)

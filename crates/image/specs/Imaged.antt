@@ -1,0 +1,180 @@
+-- What `of_step` promises: rows, centre, generators and radii are those of the definition's rounded image, in wide form.
+use mathlib.Core.List.{List, map}
+use mathlib.Core.Path.{_≡_, sym, _∙_, ap, ap₂}
+use Prim.Native.Nat.{ℕ, _*_, _<_, _≤_}
+use native.Mathlib.Omega.{arith}
+use lib.IntN.{ℤ, pos}
+use lib.ListN.{length, getD}
+use Rattle.whole.specs.Round.{round}
+use Rattle.whole.specs.Tab.{tab, tab-cong, map-tab, length-tab, getD-tab}
+use Rattle.whole.specs.Write.{write}
+use Rattle.rows.specs.Rows.{rowsOf, Small}
+use Rattle.model.specs.Set.{Zonotope, at}
+use Rattle.model.specs.Step.{Step, raw, rawCentre, rawLinear, remainder, inexactAt, roundedRadius, rounded}
+use Rattle.zonotope.specs.Record.{view}
+use Rattle.zonotope.specs.declared.PolyZonotope.{PolyZonotope}
+use Rattle.forms.specs.Tables.{tab-small}
+use Rattle.forms.specs.Filling.{write-all}
+use Rattle.forms.specs.Numbers.{six, roundLimit}
+use Rattle.forms.specs.Wide.{wide, Shaped}
+use Rattle.raw.specs.Accepted.{Accepted}
+use Rattle.raw.specs.Unused.{generatorAt, counts-in, same-row}
+use Rattle.raw.specs.Append.{wideTerm, Bounded, Kept, kept-after}
+use Rattle.raw.specs.Terms.{RawTerms}
+use Rattle.image.specs.Rounding.{inexactOf, roundTerm, round-small, rounded-rows, rounded-small, bounded-mono}
+use Rattle.image.specs.Remainder.{Below, roundedUp, imageLimit}
+use Rattle.image.specs.Radii.{NewRadii}
+use Rattle.raw.specs.Parts.{wideVectors, RawCentre, RawGenerators}
+use Rattle.image.specs.Padded.{same-terms, same-centre, same-remainder, same-generators}
+use Rattle.image.specs.Counted.{round-terms, round-vector, round-vectors, counted, same-inexact, none-rounded}
+use Rattle.image.specs.declared.Image.{Image}
+
+-- r, with the first rows of the slices e and w, is the rounded image of s under p in wide form; e₀ and w₀ are the slices as they were
+pub record Imaged (p : Step) (s : PolyZonotope) (e₀ : List ℕ) (w₀ : List ℤ) (r : Image) (e : List ℕ) (w : List ℤ) : Type 0 where
+  pub inside : r .rows ≤ 860
+  pub terms : rowsOf e w (r .rows) ≡ map wideTerm (rounded (raw p (view s)) .terms)
+  pub centre : r .centre ≡ tab 6 (at (rounded (raw p (view s)) .centre))
+  pub generators : r .generators ≡ wideVectors (rounded (raw p (view s)) .generators)
+  pub radii : r .radii ≡ tab 6 (λ i. getD (rounded (raw p (view s)) .radii) i 0)
+  pub small-terms : Bounded imageLimit (r .rows * 6) w
+  pub small-centre : Small imageLimit (r .centre)
+  pub small-generators : Small imageLimit (r .generators)
+  pub small-radii : Below imageLimit (r .radii)
+  pub later-exponents : Kept 0 (r .rows * 12) e₀ e
+  pub later-numbers : Kept (pos 0) (r .rows * 6) w₀ w
+
+-- there are as many generators as the record has
+images-length : (p : Step) (s : PolyZonotope) → length (raw p (view s) .generators) ≡ s .generators
+unfolding raw view
+images-length p s =
+    ap length (map-tab (λ g. tab (p .rows) (rawLinear p (view s) g)) (s .generators) (generatorAt s))
+    ∙ length-tab (s .generators) (λ t. tab (p .rows) (rawLinear p (view s) (generatorAt s t)))
+
+-- ---- numbers rounded in place
+rounded-all : (N : ℕ) (v w : List ℤ) → length v ≡ N → w ≡ write v 0 (λ x. round (at v x)) N → w ≡ tab N (λ x. round (at v x))
+rounded-all N v w l e = e ∙ write-all (pos 0) N (λ x. round (at v x)) v l
+
+rounded-all-small : (N : ℕ) (v w : List ℤ) → Small roundLimit v → w ≡ tab N (λ x. round (at v x)) → Small imageLimit w
+rounded-all-small N v w h e =
+    rw e (tab-small imageLimit N (λ x. round (at v x)) (λ x l. omega (arith, round-small (at v x) (h .small x))))
+
+-- ---- the stages, on six coordinates
+module _ (c a q : List ℤ) (s : PolyZonotope) (ok : Accepted s) (e₀ e : List ℕ) (w₀ w w′ : List ℤ) (r : ℕ)
+    (raw-terms : RawTerms a q s e₀ w₀ r e w) (long : r * 6 ≤ length w) (rounded-terms : w′ ≡ write w 0 (λ x. round (at w x)) (r * 6))
+    (centre centre′ : List ℤ) (raw-centre : RawCentre c a q s centre)
+    (rounded-centre : centre′ ≡ write centre 0 (λ x. round (at centre x)) 6)
+    (vectors vectors′ : List ℤ) (raw-vectors : RawGenerators a q s vectors)
+    (rounded-vectors : vectors′ ≡ write vectors 0 (λ x. round (at vectors x)) 144)
+    (counts radii : List ℕ) (counting : counts ≡ tab 6 (inexactOf w r centre vectors (s .generators)))
+    (new-radii : NewRadii a q s counts radii) where
+  abbrev P : Step
+  P = six c a q
+
+  abbrev z : Zonotope
+  z = raw P (view s)
+
+  centre-is : centre ≡ z .centre
+  unfolding raw
+  centre-is = raw-centre .numbers
+
+  centre-wide : centre ≡ tab 6 (at (z .centre))
+  unfolding raw
+  centre-wide = raw-centre .numbers ∙ tab-cong 6 (rawCentre P (view s)) _ (λ i h. sym (getD-tab 6 (rawCentre P (view s)) (pos 0) i h))
+
+  centre-rounded : centre′ ≡ tab 6 (λ x. round (at centre x))
+  centre-rounded = rounded-all 6 centre centre′ (ap length (raw-centre .numbers) ∙ length-tab 6 (rawCentre P (view s))) rounded-centre
+
+  vectors-rounded : vectors′ ≡ tab 144 (λ x. round (at vectors x))
+  vectors-rounded = rounded-all 144 vectors vectors′ (ap length (raw-vectors .numbers c) ∙ length-tab 144 _) rounded-vectors
+
+  count-at : (i : ℕ) → i < 6 → getD counts i 0 ≡ inexactAt z i
+  count-at i h =
+      ap (λ (ns : List ℕ). getD ns i 0) counting
+      ∙ getD-tab 6 (inexactOf w r centre vectors (s .generators)) 0 i h
+      ∙ counted z e w centre vectors r (s .generators) long (images-length P s) (counts-in s ok .3) (raw-terms .rows c) centre-wide
+      (raw-vectors .numbers c) i h
+
+  radius-at : (i : ℕ) → i < 6 → roundedUp (remainder P (view s) i) (getD counts i 0) ≡ getD (tab 6 (roundedRadius z)) i 0
+  unfolding roundedRadius raw
+  radius-at i h =
+      ap₂ roundedUp (sym (getD-tab 6 (remainder P (view s)) 0 i h)) (count-at i h) ∙ sym (getD-tab 6 (roundedRadius z) 0 i h)
+
+  pub imaged : Imaged P s e₀ w₀ (record { rows = r; centre = centre′; generators = vectors′; radii = radii }) e w′
+  unfolding rounded raw
+  imaged = record {
+    inside = raw-terms .inside;
+    terms =
+        ap (λ (v : List ℤ). rowsOf e v r) rounded-terms
+        ∙ rounded-rows e w r long
+        ∙ ap (map roundTerm) (raw-terms .rows c)
+        ∙ round-terms (z .terms);
+    centre = centre-rounded ∙ ap (λ (v : List ℤ). tab 6 (λ x. round (at v x))) centre-is ∙ round-vector (z .centre);
+    generators =
+        vectors-rounded
+        ∙ ap (λ (v : List ℤ). tab 144 (λ x. round (at v x))) (raw-vectors .numbers c)
+        ∙ round-vectors (z .generators);
+    radii = new-radii .radii c ∙ tab-cong 6 _ (λ i. getD (tab 6 (roundedRadius z)) i 0) radius-at;
+    small-terms = rw rounded-terms (bounded-mono (rounded-small e w r long (bounded-mono (raw-terms .numbers) (omega arith)))
+        (omega arith));
+    small-centre = rounded-all-small 6 centre centre′ (raw-centre .small) centre-rounded;
+    small-generators = rounded-all-small 144 vectors vectors′ (raw-vectors .small) vectors-rounded;
+    small-radii = new-radii .small;
+    later-exponents = raw-terms .later-exponents;
+    later-numbers = record {
+      place = λ x h. ap (λ (v : List ℤ). at v x) rounded-terms
+          ∙ kept-after (pos 0) w 0 (λ y. round (at w y)) (r * 6) .place x (omega arith)
+          ∙ raw-terms .later-numbers .place x h;
+    };
+  }
+
+-- ---- on the step's own coordinates
+module _ (p : Step) (shaped : Shaped p) (s : PolyZonotope) (ok : Accepted s) where
+  abbrev y : Zonotope
+  y = raw (wide p) (view s)
+
+  abbrev x : Zonotope
+  x = raw p (view s)
+
+  few : length (x .generators) ≤ 24
+  few = rw (images-length p s) (counts-in s ok .3)
+
+  as-many : length (y .generators) ≡ length (x .generators)
+  as-many = images-length (wide p) s ∙ sym (images-length p s)
+
+  radius-same : (i : ℕ) → i < 6 → getD (tab 6 (roundedRadius y)) i 0 ≡ getD (tab (p .rows) (roundedRadius x)) i 0
+  unfolding roundedRadius
+  radius-same i h =
+      getD-tab 6 (roundedRadius y) 0 i h
+      ∙ both
+      ∙ same-row 0 (roundedRadius x) (p .rows) 6 (λ j l m. none-rounded p (view s) j m) i h
+    where
+      both : roundedRadius y i ≡ roundedRadius x i
+      both =
+          ap₂ roundedUp (same-remainder p shaped (view s) i h)
+          (same-inexact y x (same-terms p shaped (view s)) (same-generators p shaped (view s)) as-many few i h
+          (same-centre p shaped (view s) i h))
+
+  pub imaged-narrow : (e₀ : List ℕ) (w₀ : List ℤ) (r : Image) (e : List ℕ) (w : List ℤ) → Imaged (wide p) s e₀ w₀ r e w →
+      Imaged p s e₀ w₀ r e w
+  unfolding rounded raw
+  imaged-narrow e₀ w₀ r e w d = record {
+    inside = d .inside;
+    terms = d .terms ∙ sym (round-terms (y .terms)) ∙ ap (map roundTerm) (same-terms p shaped (view s)) ∙ round-terms (x .terms);
+    centre =
+        d .centre
+        ∙ sym (round-vector (y .centre))
+        ∙ tab-cong 6 _ _ (λ i h. ap round (same-centre p shaped (view s) i h))
+        ∙ round-vector (x .centre);
+    generators =
+        d .generators
+        ∙ sym (round-vectors (y .generators))
+        ∙ ap (λ (v : List ℤ). tab 144 (λ k. round (at v k))) (same-generators p shaped (view s))
+        ∙ round-vectors (x .generators);
+    radii = d .radii ∙ tab-cong 6 _ _ radius-same;
+    small-terms = d .small-terms;
+    small-centre = d .small-centre;
+    small-generators = d .small-generators;
+    small-radii = d .small-radii;
+    later-exponents = d .later-exponents;
+    later-numbers = d .later-numbers;
+  }

@@ -1,0 +1,75 @@
+// The image of a set under a polynomial step, before it is finished: raw numbers, then each rounded, with what rounding and the independent
+// part add to the radii.
+ghost use Prim.Native.Nat.{_≤_};
+ghost use lib.ListN.{length};
+ghost use Rattle.rows.specs.Rows.{Small};
+ghost use Rattle.forms.specs.Numbers.{six};
+ghost use Rattle.raw.specs.Accepted.{Accepted};
+ghost use Rattle.image.specs.StepAccepted.{StepAccepted, stepOf};
+ghost use Rattle.image.specs.Imaged.{Imaged};
+
+mod remainder;
+mod rounding;
+
+use zonotope::PolyZonotope;
+
+// An image: its terms stand in the first rows of the work slices, the rest here.
+pub struct Image {
+    pub rows: usize,
+    pub centre: [i64; 6],
+    pub generators: [i64; 144],
+    pub radii: [u64; 6],
+}
+
+// The image of s under the step x' = c + Ax + Q(x, x) to m coordinates from n.
+pub fn of_step(
+    m: usize,
+    n: usize,
+    c: &[i32],
+    a: &[i32],
+    q: &[i32],
+    s: PolyZonotope,
+    w: &mut [i64],
+    e: &mut [u8],
+) -> Image
+    requires { ⌜ StepAccepted (stepOf m n (now c) (now a) (now q)) × Accepted s
+        × (5160 ≤ length (now w)) × (10320 ≤ length (now e)) ⌝ }
+    ensures { λ r. ⌜ Imaged (stepOf m n (now (c .entry)) (now (a .entry)) (now (q .entry))) s (now (e .entry)) (now (w .entry)) r
+        (now (e .exit)) (now (w .exit)) ⌝ }
+{
+    let constant = forms::wide_constant(c);
+    let linear = forms::wide_linear(a, n);
+    let quadratic = forms::wide_quadratic(q, n);
+    of_wide_step(&constant, &linear, &quadratic, s, w, e)
+}
+
+// The image under a step on six coordinates.
+fn of_wide_step(
+    c: &[i32; 6],
+    a: &[i32; 36],
+    q: &[i32; 216],
+    s: PolyZonotope,
+    w: &mut [i64],
+    e: &mut [u8],
+) -> Image
+    requires { ⌜ Small 1048576 (now c) × Small 32768 (now a) × Small 32768 (now q) × Accepted s
+        × (5160 ≤ length (now w)) × (10320 ≤ length (now e)) ⌝ }
+    ensures { λ r. ⌜ Imaged (six (now (c .entry)) (now (a .entry)) (now (q .entry))) s (now (e .entry)) (now (w .entry)) r
+        (now (e .exit)) (now (w .exit)) ⌝ }
+{
+    let rows = raw::terms::all_rows(w, e, a, q, s);
+    let mut centre = raw::parts::centre(c, a, q, s);
+    let mut generators = raw::parts::generators(a, q, s);
+    let g = s.generators;
+    let counts = rounding::counts(w, rows, &centre, &generators, g);
+    let radii = remainder::radii(a, q, s, &counts);
+    rounding::round_first(w, rows * 6);
+    rounding::round_first(&mut centre, 6);
+    rounding::round_first(&mut generators, 144);
+    Image {
+        rows,
+        centre,
+        generators,
+        radii,
+    }
+}

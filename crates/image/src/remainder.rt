@@ -1,0 +1,176 @@
+// What a set's independent part, its generators and radii, adds to each coordinate's radius: S of document 01.
+ghost use mathlib.Core.Path.{_≡_};
+ghost use Prim.Native.Nat.{ℕ, _+_, _*_, _≤_, _<_};
+ghost use lib.IntN.{natAbs};
+ghost use lib.ListN.{length, getD};
+ghost use Rattle.whole.specs.Tab.{tab};
+ghost use Rattle.rows.specs.Rows.{Small};
+ghost use Rattle.forms.specs.Numbers.{tableLimit};
+ghost use Rattle.raw.specs.Accepted.{Accepted};
+ghost use Rattle.raw.specs.Limits.{rowSizes};
+ghost use Rattle.image.specs.Remainder.{Below, spread, cellOf, slopeSum, crossRow, crossSum, roundedUp};
+ghost use Rattle.image.specs.Radii.{NewRadii};
+use zonotope::PolyZonotope;
+
+// The new radii of a step on s, from the counts of inexact roundings.
+pub fn radii(a: &[i32; 36], q: &[i32; 216], s: PolyZonotope, counts: &[u64; 6]) -> [u64; 6]
+    requires { ⌜ Small 32768 (now a) × Small 32768 (now q) × Accepted s × Below 4294967296 (now counts) ⌝ }
+    ensures { λ r. ⌜ NewRadii (now (a .entry)) (now (q .entry)) s (now (counts .entry)) r ⌝ }
+{
+    let centre = s.centre;
+    let coefficients = s.coefficients;
+    let vectors = s.vectors;
+    let radii = s.radii;
+    let h = s.terms;
+    let g = s.generators;
+    let none = [0u32; 6];
+    let lines = forms::lines(a, q, &centre);
+    let d = spreads(&coefficients, h, &none);
+    let w = spreads(&coefficients, 0, &radii);
+    let r = spreads(&vectors, g, &radii);
+    radii_from(&lines, q, &d, &r, &w, counts)
+}
+
+// ---- D, r and w
+// The sum of the sizes at coordinate i of the first rows.
+fn size_sum(xs: &[i32], rows: usize, i: usize) -> u64
+    requires { ⌜ (rows ≤ 40) × (i < 6) × (rows * 6 ≤ length (now xs)) ⌝ }
+    ensures { λ r. ⌜ r ≡ rowSizes (now (xs .entry)) rows i ⌝ }
+{
+    let mut sum: u64 = 0;
+    for t in 0..rows {
+        sum += whole::size_i32(xs[t * 6 + i]);
+    }
+    sum
+}
+
+// The same, and a radius.
+fn spread_at(xs: &[i32], rows: usize, radii: &[u32; 6], i: usize) -> u64
+    requires { ⌜ (rows ≤ 40) × (i < 6) × (rows * 6 ≤ length (now xs)) × (rowSizes (now xs) rows i ≤ 1048576) ⌝ }
+    ensures { λ r. ⌜ r ≡ rowSizes (now (xs .entry)) rows i + getD (now (radii .entry)) i 0 ⌝ }
+{
+    let n = size_sum(xs, rows, i);
+    let y = whole::widen_u32(radii[i]);
+    n + y
+}
+
+// The sizes of each coordinate over the first rows, with radii.
+fn spreads(xs: &[i32], rows: usize, radii: &[u32; 6]) -> [u64; 6]
+    requires { ⌜ (rows ≤ 40) × (rows * 6 ≤ length (now xs)) × ((i : ℕ) → i < 6 → rowSizes (now xs) rows i ≤ 1048576) ⌝ }
+    ensures { λ r. ⌜ r ≡ tab 6 (spread (now (xs .entry)) rows (now (radii .entry))) ⌝ }
+{
+    let mut out = [0u64; 6];
+    for x in 0..6 {
+        let y = spread_at(xs, rows, radii, x);
+        out[x] = y;
+    }
+    out
+}
+
+// ---- sums over the coordinates
+// The size of a line's number times a radius.
+fn slope_term(x: i64, w: u64) -> u64
+    requires { ⌜ (natAbs x ≤ tableLimit) × (w ≤ 1048576) ⌝ }
+    ensures { λ r. ⌜ r ≡ natAbs x * w ⌝ }
+{
+    let n = whole::size(x);
+    n * w
+}
+
+// The sum over j of |line j|·w_j, at coordinate i.
+fn slope_sum(lines: &[i64; 36], i: usize, w: &[u64; 6]) -> u64
+    requires { ⌜ (i < 6) × Small tableLimit (now lines) × Below 1048576 (now w) ⌝ }
+    ensures { λ r. ⌜ (r ≡ slopeSum (now (lines .entry)) (now (w .entry)) i) × (r ≤ 2594917810295537664) ⌝ }
+{
+    let mut sum: u64 = 0;
+    for j in 0..6 {
+        sum += slope_term(lines[i * 6 + j], w[j]);
+    }
+    sum
+}
+
+// |Q_jl|·(D_j·r_l + r_j·D_l + r_j·r_l).
+fn cell(q: u64, dj: u64, dl: u64, rj: u64, rl: u64) -> u64
+    requires { ⌜ (q ≤ 32768) × (dj ≤ 1048576) × (dl ≤ 1048576) × (rj ≤ 1048576) × (rl ≤ 1048576) ⌝ }
+    ensures { λ r. ⌜ r ≡ cellOf q dj dl rj rl ⌝ }
+{
+    q * (dj * rl + rj * dl + rj * rl)
+}
+
+// The sum over l, in row j.
+fn cross_row(q: &[i32; 216], i: usize, d: &[u64; 6], r: &[u64; 6], j: usize) -> u64
+    requires { ⌜ (i < 6) × (j < 6) × Small 32768 (now q) × Below 1048576 (now d) × Below 1048576 (now r) ⌝ }
+    ensures { λ s. ⌜ s ≡ crossRow (now (q .entry)) (now (d .entry)) (now (r .entry)) i j ⌝ }
+{
+    let mut sum: u64 = 0;
+    for l in 0..6 {
+        let n = whole::size_i32(q[(i * 6 + j) * 6 + l]);
+        sum += cell(n, d[j], d[l], r[j], r[l]);
+    }
+    sum
+}
+
+// The sum over j and l.
+fn cross_sum(q: &[i32; 216], i: usize, d: &[u64; 6], r: &[u64; 6]) -> u64
+    requires { ⌜ (i < 6) × Small 32768 (now q) × Below 1048576 (now d) × Below 1048576 (now r) ⌝ }
+    ensures { λ s. ⌜ (s ≡ crossSum (now (q .entry)) (now (d .entry)) (now (r .entry)) i) × (s ≤ 3891110078048108544) ⌝ }
+{
+    let mut sum: u64 = 0;
+    for j in 0..6 {
+        sum += cross_row(q, i, d, r, j);
+    }
+    sum
+}
+
+// ---- radii
+// S rounded up to whole units, and half of the count rounded up.
+fn rounded_up(s: u64, count: u64) -> u64
+    requires { ⌜ (s ≤ 9223372036854775808) × (count ≤ 4294967296) ⌝ }
+    ensures { λ r. ⌜ r ≡ roundedUp s count ⌝ }
+{
+    (s + 16777215) / 16777216 + (count + 1) / 2
+}
+
+// The new radius of coordinate i.
+fn radius_at(
+    lines: &[i64; 36],
+    q: &[i32; 216],
+    d: &[u64; 6],
+    r: &[u64; 6],
+    w: &[u64; 6],
+    counts: &[u64; 6],
+    i: usize,
+) -> u64
+    requires { ⌜ (i < 6) × Small tableLimit (now lines) × Small 32768 (now q) × Below 1048576 (now d) × Below 1048576 (now r)
+        × Below 1048576 (now w) × Below 4294967296 (now counts) ⌝ }
+    ensures { λ s. ⌜ s ≡ roundedUp
+        (slopeSum (now (lines .entry)) (now (w .entry)) i + crossSum (now (q .entry)) (now (d .entry)) (now (r .entry)) i)
+        (getD (now (counts .entry)) i 0) ⌝ }
+{
+    let x = slope_sum(lines, i, w);
+    let y = cross_sum(q, i, d, r);
+    rounded_up(x + y, counts[i])
+}
+
+// The new radius of each coordinate.
+fn radii_from(
+    lines: &[i64; 36],
+    q: &[i32; 216],
+    d: &[u64; 6],
+    r: &[u64; 6],
+    w: &[u64; 6],
+    counts: &[u64; 6],
+) -> [u64; 6]
+    requires { ⌜ Small tableLimit (now lines) × Small 32768 (now q) × Below 1048576 (now d) × Below 1048576 (now r)
+        × Below 1048576 (now w) × Below 4294967296 (now counts) ⌝ }
+    ensures { λ s. ⌜ s ≡ tab 6 (λ (i : ℕ). roundedUp
+        (slopeSum (now (lines .entry)) (now (w .entry)) i + crossSum (now (q .entry)) (now (d .entry)) (now (r .entry)) i)
+        (getD (now (counts .entry)) i 0)) ⌝ }
+{
+    let mut out = [0u64; 6];
+    for x in 0..6 {
+        let y = radius_at(lines, q, d, r, w, counts, x);
+        out[x] = y;
+    }
+    out
+}

@@ -1,0 +1,180 @@
+-- The rows of the used pairs, as a loop over the pair table writes them after the own terms' rows.
+use mathlib.Core.Bool.{Bool, true, false, cond}
+use mathlib.Core.List.{List, [], _∷_, _++_, map, append-assoc, append-nil}
+use mathlib.Core.Path.{_≡_, refl, sym, _∙_, ap}
+use Prim.Native.Nat.{ℕ, _+_, _*_, _/_, _%_, _<_, _≤_}
+use native.Mathlib.Omega.{arith}
+use borrow.Author.Tests.{eq-eqb, ne-eqb}
+use lib.Dec.{eqb}
+use lib.IntN.{ℤ, pos, negsuc, natAbs}
+use lib.ListN.{length, getD, drop}
+use Rattle.whole.specs.Half.{half}
+use Rattle.whole.specs.Tab.{tab}
+use Rattle.whole.specs.Write.{write, write-length}
+use Rattle.rows.specs.Rows.{rowsOf, Small}
+use Rattle.model.specs.Pairs.{pairCodes}
+use Rattle.model.specs.Set.{Term}
+use Rattle.model.specs.Step.{dot}
+use Rattle.forms.specs.Tables.{rowOf}
+use Rattle.forms.specs.Numbers.{rawLimit, tableLimit, product-small}
+use Rattle.raw.specs.Append.{Bounded, Kept, rows-more, kept-after, bounded-more}
+use Rattle.raw.specs.Pairs.{used, used-taken, used-left, used-end}
+
+-- ---- a pair's row
+-- the number at coordinate i of terms s and t: one dot product with the column of t, or half of it for a term with itself
+unfoldable pub pairNumber : List ℤ → List ℤ → ℕ → ℕ → ℕ → ℤ
+pairNumber columns coefficients s t i =
+    cond (eqb s t) (half (dot 6 (rowOf coefficients s) (rowOf columns (40 * i + t))))
+    (dot 6 (rowOf coefficients s) (rowOf columns (40 * i + t)))
+
+-- the exponents are added
+abbrev pub pairExponent : List ℕ → ℕ → ℕ → ℕ → ℕ
+pairExponent exponents s t k = getD exponents (s * 12 + k) 0 + getD exponents (t * 12 + k) 0
+
+-- the row of the pair with a code
+abbrev pub pairRow : List ℤ → List ℤ → List ℕ → ℕ → Term
+pairRow columns coefficients exponents c = record {
+  exponents = tab 12 (pairExponent exponents (c / 40) (c % 40));
+  coefficients = tab 6 (pairNumber columns coefficients (c / 40) (c % 40));
+}
+
+module _ (columns coefficients : List ℤ) (s t i : ℕ) where
+  pub number-square : s ≡ t → pairNumber columns coefficients s t i ≡ half (dot 6 (rowOf coefficients s) (rowOf columns (40 * i + t)))
+  unfolding pairNumber
+  number-square e = rw (eq-eqb s t e)
+
+  pub number-pair : (s ≡ t → ⊥) → pairNumber columns coefficients s t i ≡ dot 6 (rowOf coefficients s) (rowOf columns (40 * i + t))
+  unfolding pairNumber
+  number-pair e = rw (ne-eqb s t e)
+
+pub half-small : (z : ℤ) (K : ℕ) → natAbs z ≤ K → natAbs (half z) ≤ K
+unfolding half
+half-small (pos a) K h = omega arith
+half-small (negsuc a) K h = omega arith
+
+pub number-small : (columns coefficients : List ℤ) → Small 1048576 coefficients → Small tableLimit columns → (s t i : ℕ)
+    → natAbs (pairNumber columns coefficients s t i) ≤ rawLimit
+unfolding pairNumber
+number-small columns coefficients hc hn s t i = go (eqb s t) (product-small coefficients columns hc hn s (40 * i + t))
+  where
+    go : (b : Bool) → natAbs (dot 6 (rowOf coefficients s) (rowOf columns (40 * i + t))) ≤ rawLimit
+        → natAbs (cond b (half (dot 6 (rowOf coefficients s) (rowOf columns (40 * i + t))))
+        (dot 6 (rowOf coefficients s) (rowOf columns (40 * i + t)))) ≤ rawLimit
+    go true h = half-small (dot 6 (rowOf coefficients s) (rowOf columns (40 * i + t))) rawLimit h
+    go false h = h
+
+-- ---- the loop: k places of the table are passed, and r rows stand
+module _ (columns coefficients : List ℤ) (exponents : List ℕ) (h : ℕ) (e₀ : List ℕ) (w₀ : List ℤ) where
+  abbrev rowOfPair : ℕ → Term
+  rowOfPair = pairRow columns coefficients exponents
+
+  -- all rows: those that stood, and those of the used pairs
+  abbrev pub allRows : List Term
+  allRows = rowsOf e₀ w₀ h ++ map rowOfPair (used h (pairCodes 40))
+
+  -- at each turn: the rows that stand, with those that are still to come, are all rows
+  pub record Taken (k r : ℕ) (e : List ℕ) (w : List ℤ) : Type 0 where
+    pub passed : k ≤ 820
+    pub least : h ≤ r
+    pub inside : r ≤ h + k
+    pub rows : rowsOf e w r ++ map rowOfPair (used h (drop k (pairCodes 40))) ≡ allRows
+    pub numbers : Bounded rawLimit (r * 6) w
+    pub long-exponents : length e ≡ length e₀
+    pub long-numbers : length w ≡ length w₀
+    pub later-exponents : Kept 0 (r * 12) e₀ e
+    pub later-numbers : Kept (pos 0) (r * 6) w₀ w
+
+  -- what stands in the end
+  pub record Added (r : ℕ) (e : List ℕ) (w : List ℤ) : Type 0 where
+    pub least : h ≤ r
+    pub inside : r ≤ h + 820
+    pub rows : rowsOf e w r ≡ allRows
+    pub numbers : Bounded rawLimit (r * 6) w
+    pub later-exponents : Kept 0 (r * 12) e₀ e
+    pub later-numbers : Kept (pos 0) (r * 6) w₀ w
+
+  pub taken-none : Bounded rawLimit (h * 6) w₀ → Taken 0 h e₀ w₀
+  taken-none b = record {
+    passed = omega arith;
+    least = omega arith;
+    inside = omega arith;
+    rows = refl;
+    numbers = b;
+    long-exponents = refl;
+    long-numbers = refl;
+    later-exponents = record { place = λ x l. refl };
+    later-numbers = record { place = λ x l. refl };
+  }
+
+  module _ (k r : ℕ) (e : List ℕ) (w : List ℤ) (now : Taken k r e w) (more : k < 820) where
+    abbrev c : ℕ
+    c = getD (pairCodes 40) k 0
+
+    pub taken-left : h ≤ c % 40 → Taken (k + 1) r e w
+    taken-left b = let p = now .inside in record {
+      passed = omega arith;
+      least = now .least;
+      inside = omega arith;
+      rows = ap (λ (cs : List ℕ). rowsOf e w r ++ map rowOfPair cs) (sym (used-left h k more b)) ∙ now .rows;
+      numbers = now .numbers;
+      long-exponents = now .long-exponents;
+      long-numbers = now .long-numbers;
+      later-exponents = now .later-exponents;
+      later-numbers = now .later-numbers;
+    }
+
+    abbrev G : ℕ → ℕ
+    G = pairExponent exponents (c / 40) (c % 40)
+
+    abbrev F : ℕ → ℤ
+    F = pairNumber columns coefficients (c / 40) (c % 40)
+
+    written : c % 40 < h → r * 12 + 12 ≤ length e → r * 6 + 6 ≤ length w → ((j : ℕ) → j < 6 → natAbs (F j) ≤ rawLimit)
+        → Taken (k + 1) (r + 1) (write e (r * 12) G 12) (write w (r * 6) F 6)
+    written b le lw small = let p = now .inside in let o = now .least in record {
+      passed = omega arith;
+      least = omega arith;
+      inside = omega arith;
+      rows =
+          ap (λ (ts : List Term). ts ++ map rowOfPair (used h (drop (k + 1) (pairCodes 40)))) (rows-more e w r G F le lw)
+          ∙ append-assoc (rowsOf e w r) (rowOfPair c ∷ []) (map rowOfPair (used h (drop (k + 1) (pairCodes 40))))
+          ∙ ap (λ (cs : List ℕ). rowsOf e w r ++ map rowOfPair cs) (sym (used-taken h k more b))
+          ∙ now .rows;
+      numbers = bounded-more rawLimit w r F lw (now .numbers) small;
+      long-exponents = write-length e (r * 12) G 12 ∙ now .long-exponents;
+      long-numbers = write-length w (r * 6) F 6 ∙ now .long-numbers;
+      later-exponents = record {
+        place = λ x l. kept-after 0 e (r * 12) G 12 .place x (omega arith)
+            ∙ now .later-exponents .place x (omega arith);
+      };
+      later-numbers = record {
+        place = λ x l. kept-after (pos 0) w (r * 6) F 6 .place x (omega arith)
+            ∙ now .later-numbers .place x (omega arith);
+      };
+    }
+
+    -- x is the code as the loop holds it
+    pub taken-one : (x : ℕ) (e′ : List ℕ) (w′ : List ℤ) → x ≡ c → x % 40 < h → r * 12 + 12 ≤ length e → r * 6 + 6 ≤ length w
+        → Small 1048576 coefficients → Small tableLimit columns
+        → e′ ≡ write e (r * 12) (pairExponent exponents (x / 40) (x % 40)) 12
+        → w′ ≡ write w (r * 6) (pairNumber columns coefficients (x / 40) (x % 40)) 6
+        → Taken (k + 1) (r + 1) e′ w′
+    taken-one x e′ w′ same b le lw hc hn pe pw =
+        rw (pe, pw, same) (written (rw same at b) le lw (λ j l. number-small columns coefficients hc hn (c / 40) (c % 40) j))
+
+  pub taken-all : (k r : ℕ) (e : List ℕ) (w : List ℤ) → Taken k r e w → 820 ≤ k → Added r e w
+  taken-all k r e w t l =
+      let p = t .passed in
+      let i = t .inside in
+      let n : 820 ≡ k = omega arith in record {
+        least = t .least;
+        inside = omega arith;
+        rows =
+            sym (append-nil (rowsOf e w r))
+            ∙ ap (λ (cs : List ℕ). rowsOf e w r ++ map rowOfPair cs) (sym (used-end h))
+            ∙ ap (λ (m : ℕ). rowsOf e w r ++ map rowOfPair (used h (drop m (pairCodes 40)))) n
+            ∙ t .rows;
+        numbers = t .numbers;
+        later-exponents = t .later-exponents;
+        later-numbers = t .later-numbers;
+      }
