@@ -1,6 +1,6 @@
 // One example of each call, and document 01's run-only cases of single operations. Its `stdout` was worked out by hand: docs/EXAMPLES.md.
+use answers::Changed;
 use bounds::Verdict;
-use sums::Changed;
 use zonotope::Examined;
 use zonotope::PolyZonotope;
 

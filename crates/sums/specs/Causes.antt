@@ -19,19 +19,8 @@ use Rattle.model.specs.Library.{independentRefusal}
 use Rattle.zonotope.specs.declared.Examined.{Examined}
 use Rattle.zonotope.specs.declared.Examined.the-variants.{Accepted, Refused}
 use Rattle.zonotope.specs.Answer.{examined, orElse, first-append}
-use Rattle.sums.specs.Answer.{ofResult}
-
--- what is asked first of two parts that are asked before a third
-pub orElse-assoc : (a b c : Option ℕ) → orElse a (orElse b c) ≡ orElse (orElse a b) c
-orElse-assoc none b c = refl
-orElse-assoc (some n) b c = refl
-
--- the first set, then the arguments, then the rest
-pub in-order : (g : Given) (k l : List Cause) → firstOf (ofFirst g ++ (k ++ l)) ≡ orElse (orElse (examine g) (firstOf k)) (firstOf l)
-unfolding examine
-in-order g k l =
-    first-append (ofFirst g) (k ++ l) ∙ ap (orElse (firstOf (ofFirst g))) (first-append k l)
-    ∙ orElse-assoc (firstOf (ofFirst g)) (firstOf k) (firstOf l)
+use Rattle.answers.specs.Answer.{ofResult}
+use Rattle.answers.specs.Order.{orElse-assoc, in-order}
 
 -- ---- a disturbance's radii, for n coordinates: 4, 3, 5, 6
 abbrev pub ofRadii : ℕ → List ℕ → ℕ → List Cause

@@ -11,6 +11,7 @@ use borrow.Author.Tests.{ltb-false, eqb-true, not-false}
 use lib.Dec.{ltb, eqb}
 use lib.ListN.{length, getD, List·getD-eq-default}
 use lib.Seq.{ext-getD}
+use Rattle.rational.specs.Sum.{All-imp}
 use Rattle.whole.specs.Tab.{tab, any, length-tab, getD-tab, tab-cong}
 use Rattle.whole.specs.Write.{write, write-length, write-at, write-after}
 use Rattle.model.specs.Limits.{maxSpan, maxDisturbance}
@@ -25,12 +26,14 @@ use Rattle.model.proofs.Shape as Shape
 use Rattle.zonotope.specs.declared.PolyZonotope.{PolyZonotope}
 use Rattle.zonotope.specs.Record.{view, pack, given}
 use Rattle.zonotope.specs.Counts.{Countable, InLimits, countable}
-use Rattle.zonotope.specs.Shape.{Sized}
-use Rattle.zonotope.specs.Valid.{valid}
+use Rattle.zonotope.specs.Shape.{Sized, Shaped}
+use Rattle.zonotope.specs.Valid.{valid, passed}
 use Rattle.zonotope.specs.Tests.{none-at, any-list}
 use Rattle.zonotope.proofs.ViewPack.{view-pack}
 use Rattle.align.specs.Examined.{radii-wide, radii-small}
-use Rattle.sums.specs.Accepted.{Accepted, neither, passes, equal, view-shaped, shaped, own-record, for-sum}
+use Rattle.answers.specs.Order.{neither}
+use Rattle.answers.specs.Accepted.{Accepted, equal, view-shaped, own-record}
+use Rattle.sums.specs.Accepted.{for-sum}
 use Rattle.sums.specs.Causes.{ofRadii, beforeDisturbing}
 
 -- an accepted record, and radii that may be added to its own
@@ -43,10 +46,10 @@ pub disturbable : (s : PolyZonotope) (n : ℕ) (radii : List ℕ) → Sized s �
 unfolding firstOf view
 disturbable s n radii z e =
     let first = neither (examine (given s)) (firstOf (ofRadii n radii (view s .dimension))) e in
-    let a = passes (badDimension n) 4 (first .1) in
-    let b = passes (differs (length radii) n) 3 (a .1) in
-    let c = passes (differs n (s .dimension)) 5 (b .1) in
-    let d = passes (any (ltb maxDisturbance) radii) 6 (c .1) in
+    let a = passed (badDimension n) 4 (first .1) in
+    let b = passed (differs (length radii) n) 3 (a .1) in
+    let c = passed (differs n (s .dimension)) 5 (b .1) in
+    let d = passed (any (ltb maxDisturbance) radii) 6 (c .1) in
     record {
       set = record { sized = z; passed = valid (given s) (first .0) };
       long = equal (length radii) n (b .0) ∙ equal n (s .dimension) (c .0);
@@ -69,6 +72,15 @@ added own radii e few =
     go i (no l) =
         let z : getD radii i 0 ≡ 0 = List·getD-eq-default radii 0 (omega arith) in
         write-after own 0 f 0 (length radii) i (omega arith) ∙ omega arith
+
+-- a shaped set is one that a record can hold
+shaped : {m : Zonotope} → Shape.Shaped m → Shaped m
+shaped h = record {
+  centre = h .centre-long;
+  terms = All-imp (λ t r. record { exponents = r .exponents-long; coefficients = r .coefficients-long }) (h .rows);
+  generators = h .generators-long;
+  radii = h .radii-long;
+}
 
 -- the record with other radii
 abbrev pub withRadii : PolyZonotope → List ℕ → PolyZonotope

@@ -18,8 +18,7 @@ use Rattle.model.specs.Operations.{joined, renumbered, tiedSum}
 use Rattle.model.specs.Field.{differs, tooMany}
 use Rattle.model.specs.Run.{firstOf}
 use Rattle.model.specs.Library.{ofSecond, badNext, examine}
-use Rattle.model.proofs.Shape.{Shaped, in-order}
-use Rattle.model.proofs.Finished.{Ready, ordered-ready}
+use Rattle.model.proofs.Shape.{Shaped}
 use Rattle.model.proofs.SumShape.{joined-ready, renumbered-ready, renumbered-dimension}
 use Rattle.zonotope.specs.declared.PolyZonotope.{PolyZonotope}
 use Rattle.zonotope.specs.declared.Examined.the-variants as Accept
@@ -27,7 +26,7 @@ use Rattle.zonotope.specs.declared.Examined.the-variants.{Refused}
 use Rattle.zonotope.specs.Record.{view, spare, given}
 use Rattle.zonotope.specs.Counts.{countable}
 use Rattle.zonotope.specs.Shape.{Sized}
-use Rattle.zonotope.specs.Valid.{valid}
+use Rattle.zonotope.specs.Valid.{valid, passed}
 use Rattle.zonotope.specs.Tests.{or-left, or-right}
 use Rattle.zonotope.specs.Answer.{examined, orElse}
 use Rattle.rows.specs.Rows.{Small}
@@ -40,11 +39,12 @@ use Rattle.finish.specs.declared.Finished.{Finished}
 use Rattle.finish.specs.Held.{held, finishedAs}
 use Rattle.finish.specs.Wide.{wide}
 use Rattle.finish.specs.WideFinish.{Narrow}
-use Rattle.sums.specs.declared.Changed.{Changed}
-use Rattle.sums.specs.Answer.{answered}
+use Rattle.answers.specs.declared.Changed.{Changed}
+use Rattle.answers.specs.Answer.{answered}
 use Rattle.sums.specs.Causes.{beforeSumming, ofFactors, ofNext}
-use Rattle.sums.specs.Accepted.{Accepted, neither, passes, equal, view-shaped}
-use Rattle.sums.specs.Finishing.{Finishable, finished-held, zeros-small}
+use Rattle.answers.specs.Order.{neither}
+use Rattle.answers.specs.Accepted.{Accepted, equal, ready}
+use Rattle.answers.specs.Finishing.{Finishable, finished-held, zeros-small}
 use Rattle.sums.specs.Wide.{small-in, small-mono, under-in}
 
 -- two accepted records of one dimension
@@ -68,9 +68,6 @@ unfinishedSum n all s = record {
 }
 
 -- ---- the shape of a sum
-ready : (s : PolyZonotope) → Accepted s → Ready (view s)
-ready s a = ordered-ready (view-shaped s) (in-order (view s) (a .passed .order))
-
 module _ (a b : PolyZonotope) (h : Summable a b) where
   pub tied-shaped : Shaped (joined (view a) (view b))
   unfolding view
@@ -109,7 +106,7 @@ module _ (m : Zonotope) (all : Identifiers) (s : Sum) {e₀ e : List ℕ} {c₀ 
         let t = j .terms .few in
         let v = j .generators .few in
         record {
-          rows-few = t;
+          rows-few = omega arith;
           exponents-long = omega arith;
           exponents-few = omega arith;
           numbers-long = omega arith;
@@ -130,11 +127,11 @@ unfolding firstOf view
 summable a b z e =
     let g = given b in
     let first = neither (examine (given a)) (firstOf (ofSecond (given a) (given b))) e in
-    let c = passes (badCounts (view b)) 4 (first .1) in
-    let d = passes (differs (b .dimension) (a .dimension)) 5 (c .1) in
-    let r = passes (badRange recordIdentifiers (view b)) 6 (d .1) in
-    let o = passes (spare b || badOrder (view b)) 7 (r .1) in
-    let w = passes (tooWide (view b)) 8 (o .1) in
+    let c = passed (badCounts (view b)) 4 (first .1) in
+    let d = passed (differs (b .dimension) (a .dimension)) 5 (c .1) in
+    let r = passed (badRange recordIdentifiers (view b)) 6 (d .1) in
+    let o = passed (spare b || badOrder (view b)) 7 (r .1) in
+    let w = passed (tooWide (view b)) 8 (o .1) in
     record {
       first = record { sized = z .0; passed = valid (given a) (first .0) };
       second = record {
@@ -212,5 +209,5 @@ module _ (next : ℕ) (s : Zonotope) where
   unfolding firstOf
   next-in e =
       let out = any (λ k. not (ltb k next)) (s .identifiers) in
-      let l = or-left (ltb next firstFresh || ltb lastFresh next) out (passes (badNext next s) 11 e .0) in
+      let l = or-left (ltb next firstFresh || ltb lastFresh next) out (passed (badNext next s) 11 e .0) in
       record { few = ltb-false lastFresh next (or-right (ltb next firstFresh) (ltb lastFresh next) l) }

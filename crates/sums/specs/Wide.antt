@@ -23,8 +23,9 @@ use Rattle.finish.specs.declared.Finished.{Finished}
 use Rattle.finish.specs.Held.{held, finishedAs}
 use Rattle.finish.specs.Wide.{wideVector, wideTerm, wide}
 use Rattle.finish.specs.WideFinish.{Narrow}
-use Rattle.sums.specs.Accepted.{Accepted, view-shaped, own-record, for-sum}
-use Rattle.sums.specs.Finishing.{Finishable, finished-held}
+use Rattle.answers.specs.Accepted.{Accepted, view-shaped, own-record}
+use Rattle.sums.specs.Accepted.{for-sum}
+use Rattle.answers.specs.Finishing.{Finishable, finished-held}
 
 -- the set without its terms and generators
 abbrev pub unfinishedOf : PolyZonotope → Unfinished
@@ -130,6 +131,9 @@ module _ (s : PolyZonotope) (a : Accepted s) where
   unfolding pack
   finite-radii = subst (λ (q : PolyZonotope). Under (2 ^ 40) (q .radii)) (own-record s a)
       (under-in 6 (λ i. getD (view s .radii) i 0) (λ i l. omega (arith, radii-small s (for-sum s a) i)))
+
+  pub terms-few : s .terms ≤ 80
+  terms-few = let few = counts s (for-sum s a) in omega arith
 
   -- what finishing the record's rows asks
   pub finishable : Finishable (unfinishedOf s) (s .exponents) (s .coefficients) (s .terms) (s .vectors) (s .generators)

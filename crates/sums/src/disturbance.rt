@@ -5,9 +5,9 @@ ghost use lib.ListN.{length, getD};
 ghost use Rattle.whole.specs.Tab.{tab};
 ghost use Rattle.model.specs.Operations.{disturb};
 ghost use Rattle.zonotope.specs.Record.{view, pack};
-ghost use Rattle.sums.specs.Answer.{answered, ofResult};
+ghost use Rattle.answers.specs.Answer.{answered, ofResult};
 ghost use Rattle.sums.specs.Disturb.{Disturbable};
-use crate::Changed;
+use answers::Changed;
 use zonotope::Examined;
 use zonotope::PolyZonotope;
 

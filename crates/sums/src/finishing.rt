@@ -1,34 +1,12 @@
-// Results in rows, finished with the standard weights, and the answers for them.
+// Results in up to 80 rows, finished with the standard weights.
 ghost use mathlib.Core.Path.{_≡_};
 ghost use Prim.Native.Nat.{_≤_};
 ghost use Rattle.model.specs.Limits.{standardWeights};
-ghost use Rattle.model.specs.Set.{Zonotope};
 ghost use Rattle.model.specs.Finish.{finish};
 ghost use Rattle.finish.specs.Held.{held, finishedAs};
-ghost use Rattle.sums.specs.Answer.{answered, ofResult};
-ghost use Rattle.sums.specs.Finishing.{Finishable};
-use crate::Changed;
+ghost use Rattle.answers.specs.Finishing.{Finishable};
 use finish::Finished;
 use finish::Unfinished;
-use zonotope::Examined;
-use zonotope::PolyZonotope;
-
-// The answer for a finished result: 10 where it is too wide, with the first set as it came.
-pub fn settle(first: PolyZonotope, f: Finished) -> Changed
-    ensures { λ r. ⌜ ((m : Zonotope) → f ≡ finishedAs m → r ≡ answered (ofResult m) first m) ⌝ }
-{
-    if f.narrow {
-        let set = f.set;
-        return Changed {
-            outcome: Examined::Accepted,
-            set,
-        };
-    }
-    Changed {
-        outcome: Examined::Refused(10),
-        set: first,
-    }
-}
 
 // The result with the first rows of e and c as its terms and the first rows of g as its generators, finished.
 pub fn finish_rows(
@@ -41,7 +19,7 @@ pub fn finish_rows(
     term_limit: usize,
     generator_limit: usize,
 ) -> Finished
-    requires { ⌜ Finishable u (now e) (now c) rows (now g) generators × («term_limit» ≤ 40) × («generator_limit» ≤ 24) ⌝ }
+    requires { ⌜ Finishable u (now e) (now c) rows (now g) generators × (rows ≤ 80) × («term_limit» ≤ 40) × («generator_limit» ≤ 24) ⌝ }
     ensures { λ r. ⌜ r ≡ finishedAs (finish standardWeights «term_limit» «generator_limit»
         (held u (now (e .entry)) (now (c .entry)) rows (now (g .entry)) generators)) ⌝ }
 {

@@ -4,8 +4,8 @@ ghost use Rattle.model.specs.Limits.{standardWeights};
 ghost use Rattle.model.specs.Operations.{disturb, reduce, tiedSum, independentSum};
 ghost use Rattle.model.specs.Library.{disturbRefusal, reduceRefusal, tiedRefusal, independentRefusal};
 ghost use Rattle.zonotope.specs.Record.{view, given};
-ghost use Rattle.sums.specs.Answer.{answered};
-use zonotope::Examined;
+ghost use Rattle.answers.specs.Answer.{answered};
+use answers::Changed;
 use zonotope::PolyZonotope;
 
 mod disturbance;
@@ -14,18 +14,12 @@ mod reduction;
 mod refusals;
 mod sum;
 
-// What a call answers: that the set was changed, with the changed set, or a refusal, with the first set as it came.
-pub struct Changed {
-    pub outcome: Examined,
-    pub set: PolyZonotope,
-}
-
 // The set with radii for n coordinates added to its own.
 pub fn disturb(s: PolyZonotope, n: usize, radii: &[u32]) -> Changed
     ensures { λ r. ⌜ r ≡ answered (disturbRefusal n (now (radii .entry)) (given s)) s (disturb (now (radii .entry)) (view s)) ⌝ }
 {
     let o = refusals::before_disturbing(s, n, radii);
-    if refusals::is_refused(o) {
+    if answers::is_refused(o) {
         return Changed { outcome: o, set: s };
     }
     disturbance::disturbed(s, radii)
@@ -37,11 +31,11 @@ pub fn reduce(s: PolyZonotope, term_limit: usize, generator_limit: usize) -> Cha
         (reduce standardWeights «term_limit» «generator_limit» (view s)) ⌝ }
 {
     let o = refusals::before_reducing(s, term_limit, generator_limit);
-    if refusals::is_refused(o) {
+    if answers::is_refused(o) {
         return Changed { outcome: o, set: s };
     }
     let f = reduction::reduced(s, term_limit, generator_limit);
-    finishing::settle(s, f)
+    answers::settle(s, f)
 }
 
 // The sum in which factors with one identifier are one factor (document 01: the tied sum).
@@ -49,7 +43,7 @@ pub fn tied_sum(first: PolyZonotope, second: PolyZonotope) -> Changed
     ensures { λ r. ⌜ r ≡ answered (tiedRefusal (given first) (given second)) first (tiedSum standardWeights (view first) (view second)) ⌝ }
 {
     let o = refusals::before_summing(first, second);
-    if refusals::is_refused(o) {
+    if answers::is_refused(o) {
         return Changed {
             outcome: o,
             set: first,
@@ -64,7 +58,7 @@ pub fn independent_sum(first: PolyZonotope, second: PolyZonotope, next: u32) -> 
         (independentSum standardWeights next (view first) (view second)) ⌝ }
 {
     let o = refusals::before_renumbering(first, second, next);
-    if refusals::is_refused(o) {
+    if answers::is_refused(o) {
         return Changed {
             outcome: o,
             set: first,

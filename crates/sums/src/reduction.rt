@@ -8,7 +8,7 @@ ghost use Rattle.model.specs.Operations.{reduce};
 ghost use Rattle.zonotope.specs.Record.{view};
 ghost use Rattle.zonotope.specs.Shape.{Sized};
 ghost use Rattle.finish.specs.Held.{finishedAs};
-ghost use Rattle.sums.specs.Accepted.{Accepted};
+ghost use Rattle.answers.specs.Accepted.{Accepted};
 ghost use Rattle.sums.specs.Wide.{unfinishedOf};
 use crate::finishing;
 use finish::Finished;

@@ -6,13 +6,11 @@ ghost use lib.Dec.{ltb};
 ghost use lib.ListN.{getD};
 ghost use Rattle.whole.specs.Tab.{tab, any};
 ghost use Rattle.model.specs.Limits.{maxFactors, maxTerms, maxGenerators, maxDisturbance};
-ghost use Rattle.model.specs.Field.{badDimension};
 ghost use Rattle.model.specs.Run.{firstOf};
 ghost use Rattle.model.specs.Library.{ofSecond, badNext};
 ghost use Rattle.zonotope.specs.Record.{view, given};
 ghost use Rattle.zonotope.specs.Shape.{Sized};
 ghost use Rattle.zonotope.specs.Answer.{examined, orElse};
-ghost use Rattle.sums.specs.Answer.{isRefused};
 ghost use Rattle.sums.specs.Causes.{ofRadii, beforeDisturbing, ofLimits, beforeReducing, beforeSumming, ofNext};
 use zonotope::Examined;
 use zonotope::PolyZonotope;
@@ -25,16 +23,6 @@ const FIRST_FRESH: u32 = 65536;
 
 const LAST_FRESH: u32 = 1999999988;
 
-// Whether an answer refuses.
-pub fn is_refused(o: Examined) -> bool
-    ensures { λ r. ⌜ r ≡ isRefused o ⌝ }
-{
-    match o {
-        Examined::Accepted => false,
-        Examined::Refused(_) => true,
-    }
-}
-
 // ---- the order
 
 // The first cause that refuses a disturbance before its result is looked at: the set, then the radii.
@@ -43,7 +31,7 @@ pub fn before_disturbing(s: PolyZonotope, n: usize, radii: &[u32]) -> Examined
     ensures sized { λ r. ⌜ (r ≡ Examined.Accepted → Sized s) ⌝ }
 {
     let o = zonotope::examine(s);
-    if is_refused(o) {
+    if answers::is_refused(o) {
         return o;
     }
     of_radii(s.dimension, n, radii)
@@ -53,7 +41,7 @@ pub fn before_disturbing(s: PolyZonotope, n: usize, radii: &[u32]) -> Examined
 fn of_radii(dimension: usize, n: usize, radii: &[u32]) -> Examined
     ensures { λ r. ⌜ r ≡ examined (firstOf (ofRadii n (now (radii .entry)) dimension)) ⌝ }
 {
-    if bad_dimension(n) {
+    if answers::bad_dimension(n) {
         return Examined::Refused(4);
     }
     if radii.len() != n {
@@ -74,7 +62,7 @@ pub fn before_reducing(s: PolyZonotope, term_limit: usize, generator_limit: usiz
     ensures sized { λ r. ⌜ (r ≡ Examined.Accepted → Sized s) ⌝ }
 {
     let o = zonotope::examine(s);
-    if is_refused(o) {
+    if answers::is_refused(o) {
         return o;
     }
     of_limits(term_limit, generator_limit)
@@ -96,7 +84,7 @@ pub fn before_summing(first: PolyZonotope, second: PolyZonotope) -> Examined
     ensures sized { λ r. ⌜ (r ≡ Examined.Accepted → Sized first × Sized second) ⌝ }
 {
     let o = zonotope::examine(first);
-    if is_refused(o) {
+    if answers::is_refused(o) {
         return o;
     }
     of_second(first, second)
@@ -122,7 +110,7 @@ pub fn before_renumbering(first: PolyZonotope, second: PolyZonotope, next: u32) 
     ensures sized { λ r. ⌜ (r ≡ Examined.Accepted → Sized first × Sized second) ⌝ }
 {
     let o = before_summing(first, second);
-    if is_refused(o) {
+    if answers::is_refused(o) {
         return o;
     }
     if bad_next(first, next) {
@@ -132,13 +120,6 @@ pub fn before_renumbering(first: PolyZonotope, second: PolyZonotope, next: u32) 
 }
 
 // ---- the tests
-
-// 4: whether there can't be n coordinates.
-fn bad_dimension(n: usize) -> bool
-    ensures { λ r. ⌜ r ≡ badDimension n ⌝ }
-{
-    (n == 0) | (zonotope::MAX_DIMENSION < n)
-}
 
 // 4: whether a reduction's limit is more than a set can have.
 fn limits_out(term_limit: usize, generator_limit: usize) -> bool

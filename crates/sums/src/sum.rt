@@ -10,15 +10,15 @@ ghost use Rattle.zonotope.specs.Record.{view};
 ghost use Rattle.zonotope.specs.Answer.{orElse};
 ghost use Rattle.align.specs.Sum.{Common};
 ghost use Rattle.finish.specs.Held.{held, finishedAs};
-ghost use Rattle.sums.specs.Answer.{answered, ofResult};
+ghost use Rattle.answers.specs.Answer.{answered, ofResult};
 ghost use Rattle.sums.specs.Causes.{ofFactors};
-ghost use Rattle.sums.specs.Finishing.{Finishable};
+ghost use Rattle.answers.specs.Finishing.{Finishable};
 ghost use Rattle.sums.specs.Summed.{Summable, Next, unfinishedSum};
-use crate::Changed;
 use crate::finishing;
 use crate::refusals;
 use align::Identifiers;
 use align::Sum;
+use answers::Changed;
 use finish::Finished;
 use finish::Unfinished;
 use zonotope::Examined;
@@ -38,7 +38,7 @@ pub fn tied(first: PolyZonotope, second: PolyZonotope) -> Changed
         };
     }
     let f = tied_finished(first, second, all);
-    finishing::settle(first, f)
+    answers::settle(first, f)
 }
 
 // The tied sum over its identifiers, finished.
@@ -68,7 +68,7 @@ pub fn independent(first: PolyZonotope, second: PolyZonotope, next: u32) -> Chan
         };
     }
     let f = independent_finished(first, second, next, all);
-    finishing::settle(first, f)
+    answers::settle(first, f)
 }
 
 // The independent sum over its identifiers, finished.
@@ -97,7 +97,8 @@ fn finish_sum(
     c: &[i64],
     g: &mut [i64],
 ) -> Finished
-    requires { ⌜ Finishable (unfinishedSum dimension all sum) (now e) (now c) (sum .terms) (now g) (sum .generators) ⌝ }
+    requires { ⌜ Finishable (unfinishedSum dimension all sum) (now e) (now c) (sum .terms) (now g) (sum .generators)
+        × (sum .terms ≤ 80) ⌝ }
     ensures { λ r. ⌜ r ≡ finishedAs (finish standardWeights 40 24
         (held (unfinishedSum dimension all sum) (now (e .entry)) (now (c .entry)) (sum .terms) (now (g .entry)) (sum .generators))) ⌝ }
 {

@@ -19,7 +19,7 @@ pub record Valid (g : Given) : Type 0 where
   pub narrow : tooWide (g .set) ≡ false
 
 -- a cause that isn't the first one doesn't hold
-passed : (b : Bool) (n : ℕ) {o : Option ℕ} → cond b (some n) o ≡ none → (b ≡ false) × (o ≡ none)
+pub passed : (b : Bool) (n : ℕ) {o : Option ℕ} → cond b (some n) o ≡ none → (b ≡ false) × (o ≡ none)
 passed true n e = let z : _≡_ {A = ℕ} 0 1 = cc in absurd (omega arith)
 passed false n e = (refl, e)
 

@@ -2,7 +2,7 @@
 use mathlib.Core.Path.{sym, _∙_}
 use Rattle.model.specs.Operations.{disturb}
 use Rattle.zonotope.specs.Record.{view, given}
-use Rattle.sums.specs.Answer.{ofResult, accepting, none-refuses, answer-refused, answer-next}
+use Rattle.answers.specs.Answer.{ofResult, accepting, none-refuses, answer-refused, answer-next}
 use Rattle.sums.specs.Causes.{beforeDisturbing, disturb-order}
 use Rattle.sums.specs.Disturb.{disturbable}
 use borrow.Author.Needs.{needs}

@@ -4,9 +4,9 @@ use Rattle.model.specs.Limits.{standardWeights}
 use Rattle.model.specs.Operations.{renumbered, independentSum}
 use Rattle.zonotope.specs.Record.{view, given}
 use Rattle.zonotope.specs.Answer.{orElse}
-use Rattle.sums.specs.Answer.{ofResult, accepting, none-refuses, answer-refused, answer-next}
+use Rattle.answers.specs.Answer.{ofResult, accepting, none-refuses, answer-refused, answer-next}
 use Rattle.sums.specs.Causes.{beforeSumming, ofFactors, ofNext, independent-order}
-use Rattle.sums.specs.Accepted.{neither}
+use Rattle.answers.specs.Order.{neither}
 use Rattle.sums.specs.Summed.{summable, next-in}
 use borrow.Author.Needs.{needs}
 use Rattle.sums.proofs.independent_sum.Statement.{statement}

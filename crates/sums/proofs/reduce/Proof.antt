@@ -3,7 +3,7 @@ use mathlib.Core.Path.{sym, _∙_}
 use Rattle.model.specs.Limits.{standardWeights}
 use Rattle.model.specs.Operations.{reduce}
 use Rattle.zonotope.specs.Record.{view, given}
-use Rattle.sums.specs.Answer.{ofResult, accepting, none-refuses, answer-refused, answer-next}
+use Rattle.answers.specs.Answer.{ofResult, accepting, none-refuses, answer-refused, answer-next}
 use Rattle.sums.specs.Causes.{beforeReducing, reduce-order}
 use Rattle.sums.specs.Accepted.{limits-accepted}
 use borrow.Author.Needs.{needs}

@@ -4,7 +4,7 @@ use Rattle.model.specs.Limits.{standardWeights}
 use Rattle.model.specs.Operations.{tiedSum}
 use Rattle.zonotope.specs.Record.{view, given}
 use Rattle.zonotope.specs.Answer.{orElse}
-use Rattle.sums.specs.Answer.{ofResult, accepting, none-refuses, answer-refused, answer-next}
+use Rattle.answers.specs.Answer.{ofResult, accepting, none-refuses, answer-refused, answer-next}
 use Rattle.sums.specs.Causes.{beforeSumming, ofFactors, tied-order}
 use Rattle.sums.specs.Summed.{summable}
 use borrow.Author.Needs.{needs}

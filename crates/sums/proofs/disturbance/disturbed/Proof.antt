@@ -3,7 +3,7 @@ use mathlib.Core.Path.{_≡_, sym, ap, _∙_}
 use Rattle.model.specs.Valid.{tooWide}
 use Rattle.model.specs.Operations.{disturb}
 use Rattle.zonotope.specs.Record.{view}
-use Rattle.sums.specs.Answer.{answer-wide, answer-narrow}
+use Rattle.answers.specs.Answer.{answer-wide, answer-narrow}
 use Rattle.sums.specs.Disturb.{disturbed-limits, disturbed-width}
 use borrow.Author.Needs.{needs}
 use Rattle.sums.proofs.disturbance.disturbed.Statement.{statement}

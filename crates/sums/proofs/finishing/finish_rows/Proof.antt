@@ -1,9 +1,10 @@
 -- `finishing::finish_rows` meets its contract.
 use mathlib.Core.Path.{ap, _∙_}
+use native.Mathlib.Omega.{arith}
 use Rattle.model.specs.Limits.{standardWeights}
 use Rattle.model.specs.Finish.{finish}
 use Rattle.finish.specs.Held.{held, finishedAs}
-use Rattle.sums.specs.Finishing.{lent-length, finish-asks}
+use Rattle.answers.specs.Finishing.{lent-length, finish-asks}
 use borrow.Author.Needs.{needs}
 use Rattle.sums.proofs.finishing.finish_rows.Statement.{statement}
 use Rattle.sums.proofs.finishing.finish_rows.Tie as tie
@@ -32,8 +33,9 @@ slice-aggregate-finish c = search needs
 finish-requires : tie.Need-finish-requires
 finish-requires c κs =
     let s = c .before .before .before .before .before in
-    finish-asks (s .args .u) (s .args .e .now) (s .args .c .now) (s .args .rows) (s .args .g .now) (s .args .generators) (s .pre .0)
-    (s .pre .1) (s .pre .2)
+    let few = s .pre .1 in
+    finish-asks 80 480 (s .args .u) (s .args .e .now) (s .args .c .now) (s .args .rows) (s .args .g .now) (s .args .generators) (s .pre .0)
+    few (omega arith) (s .pre .2) (s .pre .3)
 
 same-length : tie.Need-same-length
 same-length c = search needs
@@ -46,7 +48,7 @@ returns c =
     f .finish .ensures
     ∙ ap (λ n. finishedAs (finish standardWeights (a .term-limit) (a .generator-limit)
     (held (a .u) (a .e .now) (a .c .now) n (a .g .now) (a .generators))))
-    (lent-length (a .rows) (s .pre .0 .rows-few))
+    (lent-length 80 (a .rows) (s .pre .1))
 
 pub finish-rows-spec : {M : Type 1} → statement M
 finish-rows-spec =

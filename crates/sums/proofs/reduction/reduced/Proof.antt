@@ -1,5 +1,5 @@
 -- `reduction::reduced` meets its contract.
-use Rattle.sums.specs.Wide.{finishable-parts, finished-parts}
+use Rattle.sums.specs.Wide.{terms-few, finishable-parts, finished-parts}
 use borrow.Author.Needs.{needs}
 use Rattle.sums.proofs.reduction.reduced.Statement.{statement}
 use Rattle.sums.proofs.reduction.reduced.Tie as tie
@@ -35,8 +35,8 @@ finish-rows-requires c κs =
     let u = w .before .before .before .before .before .before in
     let s = u .before in (
       finishable-parts (s .args .t1) (s .pre .0) (u .unfinished .ensures) (w .widen-numbers .ensures) (v .widen-numbers2 .ensures),
-      s .pre
-          .1,
+      terms-few (s .args .t1) (s .pre .0),
+      s .pre .1,
       s .pre .2,
     )
 

@@ -4,7 +4,7 @@ use Rattle.zonotope.specs.Record.{view, given}
 use Rattle.model.specs.Run.{firstOf}
 use Rattle.model.specs.Library.{examine}
 use Rattle.sums.specs.Causes.{ofRadii}
-use Rattle.sums.specs.Answer.{accepting, refused-first, asked-next}
+use Rattle.answers.specs.Answer.{accepting, refused-first, asked-next}
 use borrow.Author.Needs.{needs}
 use Rattle.sums.proofs.refusals.before_disturbing.Statement.{statement}
 use Rattle.sums.proofs.refusals.before_disturbing.Tie as tie

@@ -4,7 +4,7 @@ use Rattle.model.specs.Run.{firstOf}
 use Rattle.model.specs.Library.{examine}
 use Rattle.zonotope.specs.Record.{given}
 use Rattle.sums.specs.Causes.{ofLimits}
-use Rattle.sums.specs.Answer.{accepting, refused-first, asked-next}
+use Rattle.answers.specs.Answer.{accepting, refused-first, asked-next}
 use borrow.Author.Needs.{needs}
 use Rattle.sums.proofs.refusals.before_reducing.Statement.{statement}
 use Rattle.sums.proofs.refusals.before_reducing.Tie as tie

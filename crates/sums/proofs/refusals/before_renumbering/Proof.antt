@@ -3,7 +3,7 @@ use mathlib.Core.Path.{sym, _∙_}
 use Rattle.zonotope.specs.Record.{view, given}
 use Rattle.zonotope.specs.Answer.{refused}
 use Rattle.align.specs.Examined.{counts}
-use Rattle.sums.specs.Answer.{accepting, none-refuses, refused-first, refused-not, asked-next}
+use Rattle.answers.specs.Answer.{accepting, none-refuses, refused-first, refused-not, asked-next}
 use Rattle.sums.specs.Causes.{beforeSumming, ofNext}
 use Rattle.sums.specs.Accepted.{for-sum}
 use Rattle.sums.specs.Summed.{summable, next-refused, next-accepted}

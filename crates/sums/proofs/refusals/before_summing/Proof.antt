@@ -3,7 +3,7 @@ use mathlib.Core.Path.{sym, _∙_}
 use Rattle.model.specs.Run.{firstOf}
 use Rattle.model.specs.Library.{ofSecond, examine}
 use Rattle.zonotope.specs.Record.{given}
-use Rattle.sums.specs.Answer.{accepting, refused-first, asked-next, refused-not}
+use Rattle.answers.specs.Answer.{accepting, refused-first, asked-next, refused-not}
 use borrow.Author.Needs.{needs}
 use Rattle.sums.proofs.refusals.before_summing.Statement.{statement}
 use Rattle.sums.proofs.refusals.before_summing.Tie as tie

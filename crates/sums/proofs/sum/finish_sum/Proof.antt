@@ -8,9 +8,9 @@ first-twelve-requires : tie.Need-first-twelve-requires
 first-twelve-requires c κs = search needs
 
 finish-rows-requires : tie.Need-finish-rows-requires
-finish-rows-requires c κs = (
-  rw (c .before .before .before .first-twelve .ensures)
-      (c .before .before .before .before .before .before .before .pre),
+finish-rows-requires c κs = let s = c .before .before .before .before .before .before .before in (
+  rw (c .before .before .before .first-twelve .ensures) (s .pre .0),
+  s .pre .1,
   omega arith,
   omega arith,
 )

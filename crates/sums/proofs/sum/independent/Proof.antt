@@ -3,7 +3,7 @@ use mathlib.Core.Path.{sym, _∙_}
 use Rattle.model.specs.Limits.{standardWeights}
 use Rattle.model.specs.Operations.{renumbered, independentSum}
 use Rattle.zonotope.specs.Record.{view}
-use Rattle.sums.specs.Answer.{ofResult}
+use Rattle.answers.specs.Answer.{ofResult}
 use Rattle.sums.specs.Accepted.{for-sum}
 use Rattle.sums.specs.Summed.{answer-many, answer-few, factors-many, factors-common}
 use borrow.Author.Needs.{needs}

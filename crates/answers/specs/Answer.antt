@@ -11,7 +11,7 @@ use Rattle.zonotope.specs.declared.Examined.{Examined}
 use Rattle.zonotope.specs.declared.Examined.the-variants.{Accepted, Refused}
 use Rattle.zonotope.specs.Record.{pack}
 use Rattle.zonotope.specs.Answer.{examined, accepted, orElse}
-use Rattle.sums.specs.declared.Changed.{Changed}
+use Rattle.answers.specs.declared.Changed.{Changed}
 use mathlib.Core.List.{[], _∷_}
 
 -- refused with a number: the set s as it came; else the record of m

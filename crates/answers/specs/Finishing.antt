@@ -25,12 +25,12 @@ use Rattle.finish.specs.Held.{held, Reducible, Widened, finishedAs}
 use Rattle.finish.specs.Wide.{wide}
 use Rattle.finish.specs.WideFinish.{Narrow}
 use Rattle.finish.specs.WideRecord.{finish-pack, finish-tooWide}
-use Rattle.sums.specs.declared.Changed.{Changed}
-use Rattle.sums.specs.Answer.{answered, ofResult, answer-wide, answer-narrow}
+use Rattle.answers.specs.declared.Changed.{Changed}
+use Rattle.answers.specs.Answer.{answered, ofResult, answer-wide, answer-narrow}
 
 -- a result in `rows` rows of e and c and the first rows of g: a set in wide form, with numbers for which nothing overflows
 pub record Finishable (u : Unfinished) (e : List ℕ) (c : List ℤ) (rows : ℕ) (g : List ℤ) (generators : ℕ) : Type 0 where
-  pub rows-few : rows ≤ 80
+  pub rows-few : rows ≤ 860
   pub exponents-long : rows * 12 ≤ length e
   pub exponents-few : length e ≤ 10320
   pub numbers-long : rows * 6 ≤ length c
@@ -88,45 +88,40 @@ weights-under : Under 1000 standardWeights
 weights-under = let four : 4 ≤ 1000 = omega arith in let one : 1 ≤ 1000 = omega arith in
     record { under = each-under 1000 (more four (more one (more four (more one (more four (more one none)))))) }
 
-pub reducible : {u : Unfinished} {e : List ℕ} {c : List ℤ} {rows : ℕ} {g : List ℤ} {generators : ℕ} → Finishable u e c rows g generators
-    → {termLimit generatorLimit : ℕ} → termLimit ≤ 40 → generatorLimit ≤ 24
-    → (places heads : List ℕ) (s : List ℤ) → length places ≡ rows → length heads ≡ rows → s ≡ replicate 480 (pos 0)
-    → Reducible u e c places heads s g generators termLimit generatorLimit standardWeights
-reducible f h q places heads s p k z =
-    let few = f .rows-few in
-    let long : length s ≡ 480 = ap length z ∙ length-replicate 480 (pos 0) in
-    record {
-      rows-few = omega arith;
-      exponents-long = rw p (f .exponents-long);
-      exponents-few = f .exponents-few;
-      numbers-long = rw p (f .numbers-long);
-      numbers-small = f .numbers-small;
-      sums-long = omega arith;
-      sums-small = rw z (zeros-small 480);
-      heads-long = k ∙ sym p;
-      generators-few = f .generators-few;
-      generators-long = f .generators-long;
-      generators-small = f .generators-small;
-      centre-small = f .centre-small;
-      radii-small = f .radii-small;
-      weights-small = weights-under;
-      term-limit = h;
-      generator-limit = q;
-    }
+-- the part of N places that is lent for `rows` rows
+abbrev pub lent : ℕ → ℕ → List ℕ
+lent N rows = take (rows - 0) (replicate N 0)
 
--- the part of the work space that is lent for `rows` rows
-abbrev pub lent : ℕ → List ℕ
-lent rows = take (rows - 0) (replicate 80 0)
+pub lent-length : (N rows : ℕ) → rows ≤ N → length (lent N rows) ≡ rows
+lent-length N rows h = length-take-le (rows - 0) (replicate N 0) (omega (arith, length-replicate {A = ℕ} N 0)) ∙ omega arith
 
-pub lent-length : (rows : ℕ) → rows ≤ 80 → length (lent rows) ≡ rows
-lent-length rows h = length-take-le (rows - 0) (replicate 80 0) (omega (arith, length-replicate {A = ℕ} 80 0)) ∙ omega arith
-
-pub finish-asks : (u : Unfinished) (e : List ℕ) (c : List ℤ) (rows : ℕ) (g : List ℤ) (generators : ℕ) → Finishable u e c rows g generators
-    → {termLimit generatorLimit : ℕ} → termLimit ≤ 40 → generatorLimit ≤ 24
-    → Reducible u e c (lent rows) (lent rows) (replicate 480 (pos 0)) g generators termLimit generatorLimit standardWeights
-    × Widened (held u e c (length (lent rows)) g generators)
-finish-asks u e c rows g generators f h q =
-    let p = lent-length rows (f .rows-few) in (
-      reducible f h q (lent rows) (lent rows) (replicate 480 (pos 0)) p p refl,
-      subst (λ (n : ℕ). Widened (held u e c n g generators)) (sym p) (f .widened),
-    )
+-- what finishing asks, where there is room for N places and M sums
+module _ (N M : ℕ) (u : Unfinished) (e : List ℕ) (c : List ℤ) (rows : ℕ) (g : List ℤ) (generators : ℕ) where
+  pub finish-asks : Finishable u e c rows g generators → rows ≤ N → rows * 6 ≤ M
+      → {termLimit generatorLimit : ℕ} → termLimit ≤ 40 → generatorLimit ≤ 24
+      → Reducible u e c (lent N rows) (lent N rows) (replicate M (pos 0)) g generators termLimit generatorLimit standardWeights
+      × Widened (held u e c (length (lent N rows)) g generators)
+  finish-asks f n m h q =
+      let p = lent-length N rows n in
+      let few = f .rows-few in
+      let long : length (replicate M (pos 0)) ≡ M = length-replicate M (pos 0) in (
+        record {
+          rows-few = omega arith;
+          exponents-long = rw p (f .exponents-long);
+          exponents-few = f .exponents-few;
+          numbers-long = rw p (f .numbers-long);
+          numbers-small = f .numbers-small;
+          sums-long = omega arith;
+          sums-small = zeros-small M;
+          heads-long = refl;
+          generators-few = f .generators-few;
+          generators-long = f .generators-long;
+          generators-small = f .generators-small;
+          centre-small = f .centre-small;
+          radii-small = f .radii-small;
+          weights-small = weights-under;
+          term-limit = h;
+          generator-limit = q;
+        },
+        subst (λ (n : ℕ). Widened (held u e c n g generators)) (sym p) (f .widened),
+      )

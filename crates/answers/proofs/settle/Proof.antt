@@ -1,7 +1,7 @@
--- `finishing::settle` meets its contract.
-use Rattle.sums.specs.Finishing.{settle-narrow, settle-wide}
-use Rattle.sums.proofs.finishing.settle.Statement.{statement}
-use Rattle.sums.proofs.finishing.settle.Tie as tie
+-- `settle` meets its contract.
+use Rattle.answers.specs.Finishing.{settle-narrow, settle-wide}
+use Rattle.answers.proofs.settle.Statement.{statement}
+use Rattle.answers.proofs.settle.Tie as tie
 
 returns : tie.Need-returns
 returns c = λ m e. settle-narrow _ _ m e (c .before .if1 .taken)

@@ -1,0 +1,49 @@
+// What a call that changes a set answers: the changed set, or a refusal with the first set as it came.
+ghost use mathlib.Core.Path.{_≡_};
+ghost use Rattle.model.specs.Set.{Zonotope};
+ghost use Rattle.model.specs.Field.{badDimension};
+ghost use Rattle.finish.specs.Held.{finishedAs};
+ghost use Rattle.answers.specs.Answer.{answered, ofResult, isRefused};
+use finish::Finished;
+use zonotope::Examined;
+use zonotope::PolyZonotope;
+
+// That the set was changed, with the changed set, or a refusal, with the first set as it came.
+pub struct Changed {
+    pub outcome: Examined,
+    pub set: PolyZonotope,
+}
+
+// The answer for a finished result: 10 where it is too wide, with the first set as it came.
+pub fn settle(first: PolyZonotope, f: Finished) -> Changed
+    ensures { λ r. ⌜ ((m : Zonotope) → f ≡ finishedAs m → r ≡ answered (ofResult m) first m) ⌝ }
+{
+    if f.narrow {
+        let set = f.set;
+        return Changed {
+            outcome: Examined::Accepted,
+            set,
+        };
+    }
+    Changed {
+        outcome: Examined::Refused(10),
+        set: first,
+    }
+}
+
+// Whether an answer refuses.
+pub fn is_refused(o: Examined) -> bool
+    ensures { λ r. ⌜ r ≡ isRefused o ⌝ }
+{
+    match o {
+        Examined::Accepted => false,
+        Examined::Refused(_) => true,
+    }
+}
+
+// 4: whether there can't be n coordinates.
+pub fn bad_dimension(n: usize) -> bool
+    ensures { λ r. ⌜ r ≡ badDimension n ⌝ }
+{
+    (n == 0) | (zonotope::MAX_DIMENSION < n)
+}
