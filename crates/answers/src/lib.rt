@@ -1,7 +1,6 @@
 // What a call that changes a set answers: the changed set, or a refusal with the first set as it came.
 ghost use mathlib.Core.Path.{_≡_};
 ghost use Rattle.model.specs.Set.{Zonotope};
-ghost use Rattle.model.specs.Field.{badDimension};
 ghost use Rattle.finish.specs.Held.{finishedAs};
 ghost use Rattle.answers.specs.Answer.{answered, ofResult, isRefused};
 use finish::Finished;
@@ -39,11 +38,4 @@ pub fn is_refused(o: Examined) -> bool
         Examined::Accepted => false,
         Examined::Refused(_) => true,
     }
-}
-
-// 4: whether there can't be n coordinates.
-pub fn bad_dimension(n: usize) -> bool
-    ensures { λ r. ⌜ r ≡ badDimension n ⌝ }
-{
-    (n == 0) | (zonotope::MAX_DIMENSION < n)
 }

@@ -108,7 +108,9 @@ fn judge(s: PolyZonotope, n: usize, count: usize, normals: &[i32], bounds: &[i64
     if n != dimension {
         return Verdict::Refused(5);
     }
-    if region::entries_beyond(normals, MAX_ENTRY) | region::bounds_beyond(bounds, MAX_BOUND) {
+    if zonotope::arguments::entries_beyond(normals, MAX_ENTRY)
+        | region::bounds_beyond(bounds, MAX_BOUND)
+    {
         return Verdict::Refused(6);
     }
     if region::any_apart(s, n, normals, bounds) {

@@ -13,18 +13,6 @@ ghost use Rattle.bounds.specs.Answer.{halfspaces};
 use crate::along;
 use zonotope::PolyZonotope;
 
-// Whether the size of some entry exceeds the limit.
-pub fn entries_beyond(xs: &[i32], limit: u64) -> bool
-    ensures { λ r. ⌜ r ≡ any (beyond limit) (now (xs .entry)) ⌝ }
-{
-    for i in 0..xs.len() {
-        if limit < whole::size_i32(xs[i]) {
-            return true;
-        }
-    }
-    false
-}
-
 // Whether the size of some bound exceeds the limit.
 pub fn bounds_beyond(xs: &[i64], limit: u64) -> bool
     ensures { λ r. ⌜ r ≡ any (beyond limit) (now (xs .entry)) ⌝ }

@@ -41,7 +41,7 @@ pub fn before_disturbing(s: PolyZonotope, n: usize, radii: &[u32]) -> Examined
 fn of_radii(dimension: usize, n: usize, radii: &[u32]) -> Examined
     ensures { λ r. ⌜ r ≡ examined (firstOf (ofRadii n (now (radii .entry)) dimension)) ⌝ }
 {
-    if answers::bad_dimension(n) {
+    if zonotope::arguments::bad_dimension(n) {
         return Examined::Refused(4);
     }
     if radii.len() != n {

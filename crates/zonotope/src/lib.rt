@@ -11,6 +11,7 @@ ghost use Rattle.zonotope.specs.Counts.{InLimits};
 ghost use Rattle.zonotope.specs.Shape.{Sized};
 ghost use Rattle.zonotope.specs.Answer.{examined};
 
+pub mod arguments;
 mod rows;
 mod spare;
 

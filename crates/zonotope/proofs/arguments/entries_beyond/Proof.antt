@@ -1,4 +1,4 @@
--- `region::entries_beyond` meets its contract: no entry passed is beyond the limit.
+-- `arguments::entries_beyond` meets its contract: no entry passed is beyond the limit.
 use borrow.Author.Needs.{needs}
 use native.Mathlib.Omega.{arith}
 use mathlib.Core.Path.{_≡_, refl, sym, ap, _∙_}
@@ -11,11 +11,10 @@ use lib.ListN.{length, getD}
 use lib.IntN.{pos, natAbs}
 use Rattle.whole.specs.Fits.{read32}
 use Rattle.model.specs.Set.{at}
-use Rattle.zonotope.specs.Tests.{any-found, any-none}
 use Rattle.model.specs.Field.{beyond}
-use Rattle.zonotope.specs.Tests.{any-list}
-use Rattle.bounds.proofs.region.entries_beyond.Statement.{statement}
-use Rattle.bounds.proofs.region.entries_beyond.Tie as tie
+use Rattle.zonotope.specs.Tests.{any-found, any-none, any-list}
+use Rattle.zonotope.proofs.arguments.entries_beyond.Statement.{statement}
+use Rattle.zonotope.proofs.arguments.entries_beyond.Tie as tie
 
 abbrev Inv-loop : tie.InvT-loop
 Inv-loop xs limit i₀ i-end i = (i-end ≡ length xs) × (i ≤ length xs) × ((k : ℕ) → k < i → beyond limit (at xs k) ≡ false)

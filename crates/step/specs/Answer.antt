@@ -1,0 +1,34 @@
+-- The refusal of a step, and what the work slices hold afterwards.
+use mathlib.Core.List.{List, _++_}
+use mathlib.Core.Option.{Option, none, some}
+use mathlib.Core.Bool.{Bool, true, cond, _||_}
+use Prim.Native.Nat.{ℕ}
+use lib.Dec.{ltb, eqb}
+use lib.ListN.{length, drop, replicate}
+use lib.IntN.{ℤ}
+use Rattle.model.specs.Step.{Step}
+use Rattle.model.specs.Library.{Given, stepRefusal}
+
+-- the places that a step needs: six numbers and twelve exponents for each of 40 terms and 820 pairs
+abbrev pub workNumbers : ℕ
+workNumbers = 5160
+
+abbrev pub workExponents : ℕ
+workExponents = 10320
+
+-- 13: a work slice is too short
+abbrev pub noRoom : ℕ → ℕ → Bool
+noRoom numbers exponents = ltb numbers workNumbers || ltb exponents workExponents
+
+-- the number that refuses the step p of a given set with the work slices w and e
+abbrev pub refusalOf : List ℤ → List ℕ → Step → Given → Option ℕ
+refusalOf w e p g = stepRefusal (noRoom (length w) (length e)) p g
+
+-- whether the step was worked out: it isn't refused, or it is for its result
+abbrev pub worked : Option ℕ → Bool
+worked none = true
+worked (some n) = eqb n 10
+
+-- what a work slice holds afterwards: its first n places are d where the step was worked out; all else is as it was
+abbrev pub leftIn : {A : Type 0} → Option ℕ → ℕ → A → List A → List A
+leftIn o n d xs = cond (worked o) (replicate n d ++ drop n xs) xs

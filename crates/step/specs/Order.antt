@@ -1,0 +1,146 @@
+-- The refusal of a step by its parts: room in the work slices, the set, the step's own numbers, the result.
+use mathlib.Core.Path.{_≡_, refl, sym, ap, _∙_}
+use mathlib.Core.List.{List, [], _∷_, _++_}
+use mathlib.Core.Option.{Option, none, some}
+use mathlib.Core.Bool.{Bool, true, false, not, cond, _||_, true≢false}
+use Prim.Native.Nat.{ℕ, _*_, _≤_}
+use borrow.Author.Tests.{ltb-false, not-true}
+use lib.Dec.{ltb, eqb}
+use lib.ListN.{length}
+use Rattle.whole.specs.Tab.{any, all}
+use Rattle.model.specs.Limits.{maxConstant, maxEntry, standardWeights}
+use Rattle.model.specs.Set.{Zonotope}
+use Rattle.model.specs.Valid.{tooWide}
+use Rattle.model.specs.Step as Step
+use Rattle.model.specs.Step.{Step}
+use Rattle.model.specs.Field.{badDimension, beyond, differs}
+use Rattle.model.specs.Run.{Cause, _if_, firstOf}
+use Rattle.model.specs.Library.{Given, ofFirst, examine, stepRefusal}
+use Rattle.model.proofs.Tests.{and-true}
+use Rattle.zonotope.specs.declared.PolyZonotope.{PolyZonotope}
+use Rattle.zonotope.specs.declared.Examined.{Examined}
+use Rattle.zonotope.specs.Record.{given}
+use Rattle.zonotope.specs.Shape.{Sized}
+use Rattle.zonotope.specs.Valid.{valid, passed}
+use Rattle.zonotope.specs.Tests.{or-left, or-right}
+use Rattle.zonotope.specs.Answer.{examined, orElse, first-append}
+use Rattle.image.specs.StepAccepted.{StepAccepted}
+use Rattle.answers.specs.Answer.{ofResult, isRefused, none-refuses}
+use Rattle.answers.specs.Order.{in-order, neither}
+use Rattle.answers.specs.Accepted.{Accepted}
+use Rattle.step.specs.Answer.{workNumbers, workExponents, noRoom, worked}
+
+-- 4, 3 and 6: the step's counts, the lengths of its lists, their entries
+abbrev pub wrongCounts : Step → Bool
+wrongCounts p = badDimension (p .rows) || badDimension (p .columns)
+
+abbrev pub wrongLengths : Step → Bool
+wrongLengths p =
+    differs (length (p .constant)) (p .rows)
+    || differs (length (p .linear)) (p .rows * p .columns)
+    || differs (length (p .quadratic)) (p .rows * p .columns * p .columns)
+
+abbrev pub outOfRange : Step → Bool
+outOfRange p = any (beyond maxConstant) (p .constant) || any (beyond maxEntry) (p .linear) || any (beyond maxEntry) (p .quadratic)
+
+pub counts-in : (p : Step) → wrongCounts p ≡ false → (p .rows ≤ 6) × (p .columns ≤ 6)
+counts-in p e = (
+  within (p .rows) (or-left (badDimension (p .rows)) (badDimension (p .columns)) e),
+  within (p .columns) (or-right (badDimension (p .rows)) (badDimension (p .columns)) e),
+)
+  where
+    within : (n : ℕ) → badDimension n ≡ false → n ≤ 6
+    within n h = ltb-false 6 n (or-right (eqb n 0) (ltb 6 n) h)
+
+-- the step's own numbers, for a set of this dimension
+abbrev pub ofArguments : Step → ℕ → List Cause
+ofArguments p dimension =
+    (4 if wrongCounts p)
+    ∷ (3 if wrongLengths p)
+    ∷ (5 if differs (p .columns) dimension)
+    ∷ (6 if outOfRange p)
+    ∷ []
+
+-- the set, then the step
+abbrev pub ofSetAndStep : Step → Given → Option ℕ
+ofSetAndStep p g = orElse (examine g) (firstOf (ofArguments p (g .set .dimension)))
+
+-- before the result is looked at
+abbrev pub beforeStepping : Bool → Step → Given → Option ℕ
+beforeStepping short p g = cond short (some 13) (ofSetAndStep p g)
+
+pub step-order : (short : Bool) (p : Step) (g : Given)
+    → stepRefusal short p g ≡ orElse (beforeStepping short p g) (ofResult (Step.step standardWeights p (g .set)))
+unfolding stepRefusal firstOf
+step-order true p g = refl
+step-order false p g = in-order g (ofArguments p (g .set .dimension)) ((10 if tooWide (Step.step standardWeights p (g .set))) ∷ [])
+
+-- ---- whether the step is worked out
+-- a refusal is not for the result where no cause has its number
+not-ten : (k : List Cause) → all (λ c. not (eqb (c .number) 10)) k ≡ true → isRefused (examined (firstOf k)) ≡ true
+    → worked (firstOf k) ≡ false
+unfolding firstOf all
+not-ten [] h e = absurd (true≢false (sym e))
+not-ten (c ∷ k) h e =
+    let both = and-true (not (eqb (c .number) 10)) (all (λ c. not (eqb (c .number) 10)) k) h in
+    go (c .holds) (both .0) (not-ten k (both .1)) e
+  where
+    go : (b : Bool) → not (eqb (c .number) 10) ≡ true → (isRefused (examined (firstOf k)) ≡ true → worked (firstOf k) ≡ false)
+        → isRefused (examined (cond b (some (c .number)) (firstOf k))) ≡ true → worked (cond b (some (c .number)) (firstOf k)) ≡ false
+    go true n rest e = not-true (eqb (c .number) 10) n
+    go false n rest e = rest e
+
+-- a refusal that is asked first is the step's
+first-refuses : (o p : Option ℕ) → isRefused (examined o) ≡ true → worked (orElse o p) ≡ worked o
+first-refuses none p e = absurd (true≢false (sym e))
+first-refuses (some n) p e = refl
+
+module _ (short : Bool) (p : Step) (g : Given) {r : Examined} (from : r ≡ examined (beforeStepping short p g)) where
+  pub not-worked : isRefused r ≡ true → worked (stepRefusal short p g) ≡ false
+  unfolding examine all
+  not-worked e =
+      let refuses = sym (ap isRefused from) ∙ e in
+      ap worked (step-order short p g) ∙ first-refuses (beforeStepping short p g) _ refuses ∙ go short refuses
+    where
+      go : (b : Bool) → isRefused (examined (beforeStepping b p g)) ≡ true → worked (beforeStepping b p g) ≡ false
+      go true e = refl
+      go false e =
+          let k = ofArguments p (g .set .dimension) in
+          let joined = first-append (ofFirst g) k in
+          ap worked (sym joined) ∙ not-ten (ofFirst g ++ k) refl (ap (λ (o : Option ℕ). isRefused (examined o)) joined ∙ e)
+
+  pub was-worked : isRefused r ≡ false → worked (stepRefusal short p g) ≡ true
+  unfolding firstOf
+  was-worked e =
+      let m = Step.step standardWeights p (g .set) in
+      ap worked (step-order short p g ∙ ap (λ (o : Option ℕ). orElse o (ofResult m)) (none-refuses (beforeStepping short p g) from e))
+      ∙ go (tooWide m)
+    where
+      go : (b : Bool) → worked (cond b (some 10) none) ≡ true
+      go true = refl
+      go false = refl
+
+-- ---- what is left where nothing refuses
+-- room, an accepted set, an accepted step
+pub record Acceptable (s : PolyZonotope) (p : Step) (numbers exponents : ℕ) : Type 0 where
+  pub set : Accepted s
+  pub step : StepAccepted p
+  pub numbers-room : workNumbers ≤ numbers
+  pub exponents-room : workExponents ≤ exponents
+
+pub acceptable : (s : PolyZonotope) (p : Step) (numbers exponents : ℕ) → Sized s
+    → beforeStepping (noRoom numbers exponents) p (given s) ≡ none → Acceptable s p numbers exponents
+unfolding firstOf
+acceptable s p numbers exponents z e =
+    let room = passed (noRoom numbers exponents) 13 e in
+    let parts = neither (examine (given s)) (firstOf (ofArguments p (given s .set .dimension))) (room .1) in
+    let counts = passed (wrongCounts p) 4 (parts .1) in
+    let lengths = passed (wrongLengths p) 3 (counts .1) in
+    let dimension = passed (differs (p .columns) (given s .set .dimension)) 5 (lengths .1) in
+    let range = passed (outOfRange p) 6 (dimension .1) in
+    record {
+      set = record { sized = z; passed = valid (given s) (parts .0) };
+      step = record { counts = counts .0; lengths = lengths .0; range = range .0 };
+      numbers-room = ltb-false numbers workNumbers (or-left (ltb numbers workNumbers) (ltb exponents workExponents) (room .0));
+      exponents-room = ltb-false exponents workExponents (or-right (ltb numbers workNumbers) (ltb exponents workExponents) (room .0));
+    }
