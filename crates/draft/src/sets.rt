@@ -89,3 +89,44 @@ pub fn curved() -> PolyZonotope {
     s.radii[0] = 2;
     s
 }
+
+// In one coordinate: 4096 times factor 1 to the power 32.
+pub fn high_power() -> PolyZonotope {
+    let mut s = line(4096);
+    s.exponents[0] = 32;
+    s
+}
+
+// In one coordinate: 1 - a + a².
+pub fn halves() -> PolyZonotope {
+    let mut s = line(-1);
+    s.terms = 2;
+    s.centre[0] = 1;
+    s.exponents[12] = 2;
+    s.coefficients[6] = 1;
+    s
+}
+
+// In two coordinates, with the factors a and b, one independent part p and the radius 512 of the second coordinate:
+// 8192 + 4096 a + 2048 a b + 1024 p, and -4096 + 4096 b.
+pub fn plane() -> PolyZonotope {
+    let mut s = zonotope::empty();
+    s.dimension = 2;
+    s.factors = 2;
+    s.terms = 3;
+    s.generators = 1;
+    s.identifiers[0] = 1;
+    s.identifiers[1] = 2;
+    s.centre[0] = 8192;
+    s.centre[1] = -4096;
+    s.exponents[1] = 1;
+    s.coefficients[1] = 4096;
+    s.exponents[12] = 1;
+    s.coefficients[6] = 4096;
+    s.exponents[24] = 1;
+    s.exponents[25] = 1;
+    s.coefficients[12] = 2048;
+    s.vectors[0] = 1024;
+    s.radii[1] = 512;
+    s
+}
