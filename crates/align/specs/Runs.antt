@@ -5,8 +5,7 @@ use Prim.Native.Nat.{ℕ, zero, suc, _+_, _*_, _/_, _%_, _<_, _≤_}
 use native.Mathlib.Nat.{zero-add, suc-add, add-zero, add-suc, add-mul, suc-mul, mul-le-mul-right}
 use native.Mathlib.Omega.{arith}
 use lib.ListN.{length, getD, set}
-use lib.Seq.{ext-getD}
-use Rattle.whole.specs.Tab.{tab, length-tab, getD-tab, tab-cong}
+use Rattle.whole.specs.Tab.{tab, tab-cong}
 use Rattle.whole.specs.Write.{write, write-length, write-at, write-before, write-after, write-again}
 
 -- rows of w, one after the other
@@ -21,14 +20,6 @@ module _ {A : Type 0} where
   tab-++ (suc n) m f =
       rw (suc-add n m)
       (ap (f 0 ∷_) (tab-++ n m (λ i. f (suc i)) ∙ ap (tab n (λ i. f (suc i)) ++_) (tab-cong m _ _ (λ i l. ap f (sym (suc-add n i))))))
-
-  -- a list written from end to end is a table
-  pub write-all : (ws : List A) (f : ℕ → A) (d : A) (n : ℕ) → length ws ≡ n → write ws 0 f n ≡ tab n f
-  write-all ws f d n e =
-      ext-getD d (write ws 0 f n) (tab n f) (write-length ws 0 f n ∙ e ∙ sym (length-tab n f))
-      (λ i h.
-      let l : i < n = omega (arith, write-length ws 0 f n) in
-      ap (λ x. getD (write ws 0 f n) x d) (sym (zero-add i)) ∙ write-at ws 0 f d n i l (omega arith) ∙ sym (getD-tab n f d i l))
 
   -- one more place of a list that is written from its start, and what its first n places then hold
   pub write-next : (ws : List A) (f : ℕ → A) (w : List A) (k : ℕ) (v : A) → w ≡ write ws 0 f k → v ≡ f k

@@ -1,7 +1,7 @@
 -- What a call answers: the changed set, or a refusal with the first set as it came.
 use mathlib.Core.Path.{_≡_, refl, sym, ap, _∙_}
 use mathlib.Core.Option.{Option, none, some}
-use mathlib.Core.Bool.{Bool, true, false, cond, true≢false}
+use mathlib.Core.Bool.{Bool, true, false, true≢false}
 use Prim.Native.Nat.{ℕ}
 use Rattle.model.specs.Set.{Zonotope}
 use Rattle.model.specs.Run.{_if_, firstOf}

@@ -15,7 +15,7 @@ use Rattle.whole.specs.Tab.{tab, any, length-tab, getD-tab, getD-tab-past}
 use Rattle.model.specs.Limits.{maxEntry}
 use Rattle.model.specs.Set.{at}
 use Rattle.model.specs.Field.{beyond}
-use Rattle.zonotope.specs.Tests.{or-left, or-right, none-at, any-list}
+use Rattle.whole.specs.Tests.{or-left, or-right, none-at, any-list}
 use Rattle.bounds.specs.Along.{Entries}
 
 -- entries none of which is beyond the limit

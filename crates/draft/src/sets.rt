@@ -1,5 +1,4 @@
 // The sets of the examples.
-ghost use Prim.Native.Nat.{_≤_};
 use zonotope::PolyZonotope;
 
 // In one coordinate: factor 1 to a power.

@@ -14,7 +14,7 @@ use Rattle.model.specs.Finish.{keepAt, keepExponents}
 use Rattle.model.specs.Motion.{places}
 use Rattle.rows.specs.Rows.{exponentRow, termOf, terms}
 use Rattle.fold.specs.Marks.{at}
-use Rattle.fold.specs.Row.{any-tab-some, any-tab-none}
+use Rattle.whole.specs.Tests.{any-found, any-none}
 use Rattle.factors.specs.Kept.{kept-cong, kept-length}
 use Rattle.factors.specs.Squeeze.{Listed, rowsArray}
 
@@ -27,13 +27,13 @@ module _ (e heads : List ℕ) (s : List ℤ) (n j : ℕ) (h : j < 12) where
   pub occurs-some : (k : ℕ) → k < n → 0 < getD e (getD heads k 0 * 12 + j) 0 → occurs (terms e heads s n) j ≡ true
   unfolding terms
   occurs-some k l g =
-      any-tab-some (λ t. ltb 0 (getD (t .exponents) j 0)) n (λ k. termOf e s (getD heads k 0) k) k l
+      any-found (λ t. ltb 0 (getD (t .exponents) j 0)) n (λ k. termOf e s (getD heads k 0) k) k l
       (ap (ltb 0) (exponent-at k) ∙ lt-ltb 0 _ g)
 
   pub occurs-none : ((k : ℕ) → k < n → getD e (getD heads k 0 * 12 + j) 0 ≤ 0) → occurs (terms e heads s n) j ≡ false
   unfolding terms
   occurs-none g =
-      any-tab-none (λ t. ltb 0 (getD (t .exponents) j 0)) n (λ k. termOf e s (getD heads k 0) k)
+      any-none (λ t. ltb 0 (getD (t .exponents) j 0)) n (λ k. termOf e s (getD heads k 0) k)
       (λ k l. ap (ltb 0) (exponent-at k) ∙ le-ltb 0 _ (g k l))
 
 -- ---- without the others

@@ -13,7 +13,7 @@ use Rattle.whole.specs.Sum.{sumBy, sumℕ, sum-map}
 use Rattle.whole.specs.Tab.{tab, any, length-tab}
 use Rattle.rational.specs.Sum.{All, none, more, All-imp}
 use Rattle.model.specs.Limits.{maxSpan}
-use Rattle.model.specs.Set.{Term, Zonotope, at, termSizes, generatorSizes, span}
+use Rattle.model.specs.Set.{Zonotope, at, termSizes, generatorSizes, span}
 use Rattle.model.specs.Valid.{occurs, tooWide}
 use Rattle.model.specs.Finish.{keepExponents, dropUnused, finish}
 use Rattle.model.specs.Run.{noSet}

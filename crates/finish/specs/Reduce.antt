@@ -1,5 +1,5 @@
 -- The stages of finishing but the last, on a set that is held in rows.
-use mathlib.Core.Path.{_≡_, refl, sym, ap, ap₂, _∙_}
+use mathlib.Core.Path.{_≡_, ap, ap₂, _∙_}
 use mathlib.Core.List.{List}
 use mathlib.Core.Bool.{not}
 use Prim.Native.Nat.{ℕ, _+_, _*_, _^_, _≤_}
@@ -18,7 +18,7 @@ use Rattle.select.specs.Stage.{Ready, Bounded, Passed, GeneratorsPassed, withou
 use Rattle.finish.specs.declared.Unfinished.{Unfinished}
 use Rattle.finish.specs.declared.Reduced.{Reduced}
 use Rattle.finish.specs.Stages.{reduced}
-use Rattle.finish.specs.Held.{setOf, heldBy, Sized, Holds}
+use Rattle.finish.specs.Held.{setOf, Holds}
 
 -- the terms that are left when equal ones are added and all-zero ones dropped
 abbrev pub nonzero : List Term → List Term

@@ -1,5 +1,5 @@
 -- The span of a set whose terms and generators are held in rows.
-use mathlib.Core.Path.{_≡_, refl, sym, ap, ap₂, _∙_}
+use mathlib.Core.Path.{_≡_, refl, ap, ap₂, _∙_}
 use mathlib.Core.List.{List, [], _∷_, _++_}
 use mathlib.Core.Bool.{true, false}
 use Prim.Native.Nat.{ℕ, zero, suc, _+_, _*_, _^_, _≤_, _<_}
@@ -10,13 +10,12 @@ use lib.Dec.{ltb}
 use lib.ListN.{getD}
 use lib.IntN.{ℤ, pos, natAbs}
 use Rattle.whole.specs.Sum.{monoidℕ, sumBy, sumℕ, sum-++, uptoBy, uptoℕ, upto-cong}
-use Rattle.whole.specs.Tab.{tab, any, getD-tab}
+use Rattle.whole.specs.Tab.{tab, getD-tab, tab-more}
 use Rattle.model.specs.Limits.{maxSpan}
-use Rattle.model.specs.Set.{Zonotope, at, termSizes, generatorSizes, span}
+use Rattle.model.specs.Set.{at, termSizes, generatorSizes, span}
 use Rattle.model.specs.Valid.{tooWide}
 use Rattle.rows.specs.Rows.{numberRow, termOf, terms}
-use Rattle.fold.specs.Chosen.{tab-end}
-use Rattle.fold.specs.Row.{any-tab-some, any-tab-none}
+use Rattle.whole.specs.Tests.{any-found, any-none}
 use Rattle.finish.specs.declared.Unfinished.{Unfinished}
 use Rattle.finish.specs.declared.Reduced.{Reduced}
 use Rattle.finish.specs.Held.{heldBy, Sized}
@@ -34,7 +33,7 @@ sum-tab : {A : Type 0} (f : A → ℕ) (n : ℕ) (t : ℕ → A) → sumℕ f (t
 unfolding sumBy tab uptoBy
 sum-tab f zero t = refl
 sum-tab f (suc n) t =
-    let e : tab (suc n) t ≡ tab n t ++ (t n ∷ []) = rw add-one at (tab-end n t) in
+    let e : tab (suc n) t ≡ tab n t ++ (t n ∷ []) = rw add-one at (tab-more n t) in
     let z : f (t n) + 0 ≡ f (t n) = omega arith in
     ap (sumℕ f) e ∙ sum-++ monoidℕ f (tab n t) (t n ∷ []) ∙ ap₂ _+_ (sum-tab f n t) z
 
@@ -58,13 +57,13 @@ module _ (u : Unfinished) (k : Reduced) (e heads : List ℕ) (s g : List ℤ) wh
     pub too-wide : (i : ℕ) → i < u .dimension → maxSpan < heldSpan k s g i → tooWide (heldBy u k e heads s g) ≡ true
     unfolding tooWide
     too-wide i l h =
-        any-tab-some (λ j. ltb maxSpan (span (heldBy u k e heads s g) j)) (u .dimension) (λ j. j) i l
+        any-found (λ j. ltb maxSpan (span (heldBy u k e heads s g) j)) (u .dimension) (λ j. j) i l
         (ap (ltb maxSpan) (span-held i (omega arith)) ∙ lt-ltb maxSpan _ h)
 
     pub not-too-wide : ((i : ℕ) → i < u .dimension → heldSpan k s g i ≤ maxSpan) → tooWide (heldBy u k e heads s g) ≡ false
     unfolding tooWide
     not-too-wide h =
-        any-tab-none (λ j. ltb maxSpan (span (heldBy u k e heads s g) j)) (u .dimension) (λ j. j)
+        any-none (λ j. ltb maxSpan (span (heldBy u k e heads s g) j)) (u .dimension) (λ j. j)
         (λ i l. ap (ltb maxSpan) (span-held i (omega arith)) ∙ le-ltb maxSpan _ (h i l))
 
 -- ---- a coordinate's parts fit 64 bits together

@@ -2,7 +2,6 @@
 -- finished set has.
 use mathlib.Core.Path.{_≡_, refl, sym, _∙_, ap, ap₂, subst, fun-ext}
 use mathlib.Core.List.{List, [], _∷_, map}
-use mathlib.Core.Bool.{Bool, _||_}
 use Prim.Native.Nat.{ℕ, zero, suc, _+_, _/_, _%_, _≤_, _<_}
 use native.Mathlib.Nat.{mod-lt}
 use native.Mathlib.Omega.{arith}
@@ -10,7 +9,8 @@ use lib.Dec.{lit<, ltb}
 use lib.ListN.{length, length-map, getD}
 use lib.IntN.{ℤ, pos, natAbs}
 use Rattle.whole.specs.Sum.{sumℕ, sum-map}
-use Rattle.whole.specs.Tab.{tab, any, getD-tab, tab-cong}
+use Rattle.whole.specs.Tests.{any-cong}
+use Rattle.whole.specs.Tab.{tab, getD-tab, tab-cong}
 use Rattle.model.specs.Limits.{maxSpan}
 use Rattle.model.specs.Set.{Zonotope, at, termSizes, generatorSizes, span}
 use Rattle.model.specs.Valid.{tooWide}
@@ -64,14 +64,9 @@ span-wide m i h =
     (sum-mapped wideVector _ (λ g. ap natAbs (vector-at g i h)) (m .generators)))
     (getD-tab 6 (λ j. getD (m .radii) j 0) 0 i h)
 
-any-tab : {A : Type 0} (p q : A → Bool) (n : ℕ) (f : ℕ → A) → ((i : ℕ) → i < n → p (f i) ≡ q (f i)) → any p (tab n f) ≡ any q (tab n f)
-unfolding any tab
-any-tab p q zero f h = refl
-any-tab p q (suc n) f h = ap₂ _||_ (h 0 (omega arith)) (any-tab p q n (λ i. f (suc i)) (λ i l. h (suc i) (omega arith)))
-
 pub tooWide-wide : (m : Zonotope) → m .dimension ≤ 6 → tooWide (wideNumbers m) ≡ tooWide m
 unfolding tooWide wideNumbers
-tooWide-wide m few = any-tab _ _ (m .dimension) (λ i. i) (λ i h. ap (ltb maxSpan) (span-wide m i (omega arith)))
+tooWide-wide m few = any-cong _ _ (m .dimension) (λ i. i) (λ i h. ap (ltb maxSpan) (span-wide m i (omega arith)))
 
 -- ---- of a wide set, finished
 finish-dimension : (weights : List ℕ) (h q : ℕ) (s : Zonotope) → finish weights h q s .dimension ≡ s .dimension

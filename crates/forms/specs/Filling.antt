@@ -4,9 +4,8 @@ use mathlib.Core.Path.{_≡_, refl, sym, _∙_, ap, subst}
 use Prim.Native.Nat.{ℕ, _+_, _<_, _≤_}
 use native.Mathlib.Omega.{arith}
 use lib.ListN.{length, getD, set, length-set}
-use lib.Seq.{ext-getD}
-use Rattle.whole.specs.Tab.{tab, length-tab, getD-tab}
-use Rattle.whole.specs.Write.{write, write-none, write-length, write-again, write-at}
+use Rattle.whole.specs.Tab.{tab}
+use Rattle.whole.specs.Write.{write, write-none, write-length, write-again, write-at, write-all}
 
 -- k of n places of a slice that held ws are written, from place `at` on
 pub record Writing {X : Type 0} (ws : List X) (at : ℕ) (f : ℕ → X) (n k : ℕ) (w : List X) : Type 0 where
@@ -49,14 +48,6 @@ module _ {X : Type 0} (ws : List X) (f : ℕ → X) where
   pub first-at : (d : X) (n k : ℕ) → k < n → n ≤ length ws → getD (write ws 0 f n) k d ≡ f k
   first-at d n k h l = ap (λ (i : ℕ). getD (write ws 0 f n) i d) (first-place k) ∙ write-at ws 0 f d n k h (omega arith)
 
--- a list of which all places are written
-pub write-all : {X : Type 0} (d : X) (N : ℕ) (f : ℕ → X) (ws : List X) → length ws ≡ N → write ws 0 f N ≡ tab N f
-write-all d N f ws l =
-    ext-getD d (write ws 0 f N) (tab N f) (write-length ws 0 f N ∙ l ∙ sym (length-tab N f))
-    (λ i b.
-    let o : i < N = omega (arith, write-length ws 0 f N) in
-    first-at ws f d N i o (omega arith) ∙ sym (getD-tab N f d i o))
-
 module _ {X : Type 0} (N : ℕ) (f : ℕ → X) (ws : List X) where
   pub filling-begins : length ws ≡ N → Filling N f ws 0 ws
   filling-begins l = record { inside = omega arith; written = sym (write-none ws 0 f); long = l }
@@ -73,4 +64,4 @@ module _ {X : Type 0} (N : ℕ) (f : ℕ → X) (ws : List X) where
       let i = h .inside in
       let t : k ≡ N = omega arith in
       let e : w ≡ write ws 0 f N = h .written ∙ ap (write ws 0 f) t in
-      e ∙ write-all d N f ws (sym (write-length ws 0 f N) ∙ ap length (sym e) ∙ h .long)
+      e ∙ write-all ws f d N (sym (write-length ws 0 f N) ∙ ap length (sym e) ∙ h .long)

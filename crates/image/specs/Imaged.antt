@@ -7,14 +7,13 @@ use lib.IntN.{ℤ, pos}
 use lib.ListN.{length, getD}
 use Rattle.whole.specs.Round.{round}
 use Rattle.whole.specs.Tab.{tab, tab-cong, map-tab, length-tab, getD-tab}
-use Rattle.whole.specs.Write.{write}
+use Rattle.whole.specs.Write.{write, write-all}
 use Rattle.rows.specs.Rows.{rowsOf, Small}
 use Rattle.model.specs.Set.{Zonotope, at}
 use Rattle.model.specs.Step.{Step, raw, rawCentre, rawLinear, remainder, inexactAt, roundedRadius, rounded}
 use Rattle.zonotope.specs.Record.{view}
 use Rattle.zonotope.specs.declared.PolyZonotope.{PolyZonotope}
 use Rattle.forms.specs.Tables.{tab-small}
-use Rattle.forms.specs.Filling.{write-all}
 use Rattle.forms.specs.Numbers.{six, roundLimit}
 use Rattle.forms.specs.Wide.{wide, Shaped}
 use Rattle.raw.specs.Accepted.{Accepted}
@@ -52,7 +51,7 @@ images-length p s =
 
 -- ---- numbers rounded in place
 rounded-all : (N : ℕ) (v w : List ℤ) → length v ≡ N → w ≡ write v 0 (λ x. round (at v x)) N → w ≡ tab N (λ x. round (at v x))
-rounded-all N v w l e = e ∙ write-all (pos 0) N (λ x. round (at v x)) v l
+rounded-all N v w l e = e ∙ write-all v (λ x. round (at v x)) (pos 0) N l
 
 rounded-all-small : (N : ℕ) (v w : List ℤ) → Small roundLimit v → w ≡ tab N (λ x. round (at v x)) → Small imageLimit w
 rounded-all-small N v w h e =

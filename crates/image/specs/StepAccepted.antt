@@ -8,12 +8,13 @@ use lib.Dec.{ltb, eqb}
 use lib.IntN.{ℤ}
 use lib.ListN.{length}
 use Rattle.whole.specs.Tab.{any}
+use Rattle.model.proofs.Tests.{or-false}
 use Rattle.rows.specs.Rows.{Small}
 use Rattle.model.specs.Limits.{maxEntry, maxConstant}
 use Rattle.model.specs.Step.{Step}
 use Rattle.model.specs.Field.{badDimension, beyond, differs}
 use Rattle.forms.specs.Wide.{Shaped}
-use Rattle.raw.specs.Tests.{neither, none-beyond}
+use Rattle.raw.specs.Tests.{none-beyond}
 
 -- a count out of limits, a list whose length the counts don't give, an entry out of range: none of these
 pub record StepAccepted (p : Step) : Type 0 where
@@ -29,7 +30,7 @@ stepOf m n c a q = record { rows = m; columns = n; constant = c; linear = a; qua
 
 -- ---- what that says
 dimension-in : (n : ℕ) → badDimension n ≡ false → n ≤ 6
-dimension-in n h = ltb-false 6 n (neither (eqb n 0) (ltb 6 n) h .1)
+dimension-in n h = ltb-false 6 n (or-false (eqb n 0) (ltb 6 n) h .1)
 
 same : (m n : ℕ) → differs m n ≡ false → m ≡ n
 same m n h = eqb-true m n (not-false (eqb m n) h)
@@ -37,12 +38,12 @@ same m n h = eqb-true m n (not-false (eqb m n) h)
 module _ (p : Step) (ok : StepAccepted p) where
   pub shaped : Shaped p
   shaped =
-      let n = neither (badDimension (p .rows)) (badDimension (p .columns)) (ok .counts) in
+      let n = or-false (badDimension (p .rows)) (badDimension (p .columns)) (ok .counts) in
       let constant = differs (length (p .constant)) (p .rows) in
       let linear = differs (length (p .linear)) (p .rows * p .columns) in
       let quadratic = differs (length (p .quadratic)) (p .rows * p .columns * p .columns) in
-      let l = neither (constant || linear) quadratic (ok .lengths) in
-      let k = neither constant linear (l .0) in record {
+      let l = or-false (constant || linear) quadratic (ok .lengths) in
+      let k = or-false constant linear (l .0) in record {
         rows = dimension-in (p .rows) (n .0);
         columns = dimension-in (p .columns) (n .1);
         constants = same (length (p .constant)) (p .rows) (k .0);
@@ -55,6 +56,6 @@ module _ (p : Step) (ok : StepAccepted p) where
       let constant = any (beyond maxConstant) (p .constant) in
       let linear = any (beyond maxEntry) (p .linear) in
       let quadratic = any (beyond maxEntry) (p .quadratic) in
-      let r = neither (constant || linear) quadratic (ok .range) in
-      let k = neither constant linear (r .0) in
+      let r = or-false (constant || linear) quadratic (ok .range) in
+      let k = or-false constant linear (r .0) in
       (none-beyond maxConstant (p .constant) (k .0), none-beyond maxEntry (p .linear) (k .1), none-beyond maxEntry (p .quadratic) (r .1))

@@ -1,9 +1,8 @@
 -- Every point of a set is in its box.
-use mathlib.Core.Path.{_≡_, refl, sym, _∙_, ap, subst}
-use Prim.Native.Nat.{ℕ, _<_}
-use lib.ListN.{length, getD}
-use lib.IntN.{ℤ, pos}
-use Rattle.whole.specs.Tab.{tab, length-tab, getD-tab}
+use mathlib.Core.Path.{sym, subst}
+use Prim.Native.Nat.{_<_}
+use lib.IntN.{pos}
+use Rattle.whole.specs.Tab.{length-tab, getD-tab}
 use Rattle.rational.specs.Rational.{ι, _≤ℚ_}
 use Rattle.model.specs.Set.{Zonotope, at, radius}
 use Rattle.model.specs.Operations.{low, high, box}

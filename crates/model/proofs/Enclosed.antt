@@ -4,27 +4,23 @@ use mathlib.Core.Path.{_≡_, refl, sym, _∙_, ap, subst}
 use mathlib.Core.List.{List, [], _∷_}
 use mathlib.Core.Option.{Option, none, some, Option·getD}
 use mathlib.Core.Bool.{Bool, true, false, cond}
-use Prim.Native.Nat.{ℕ, zero, suc, _+_, _<_, _≤_}
+use Prim.Native.Nat.{ℕ, zero, suc, _+_, _<_}
 use native.Mathlib.Nat.{add-zero, add-suc, suc-add, zero-add}
 use native.Mathlib.Omega.{arith}
 use lib.Dec.{T}
 use lib.ListN.{getD}
-use lib.IntN.{pos}
-use Rattle.rational.specs.Rational.{ι, 1ℚ}
-use Rattle.rational.specs.Bounds.{Within}
-use Rattle.model.specs.Limits.{firstFresh}
 use Rattle.model.specs.Set.{Zonotope}
 use Rattle.model.specs.Operations.{Box, box, safe}
 use Rattle.model.specs.Body.{dimension, givenHalfspaces}
-use Rattle.model.specs.Field.{Kind, start, step, disturbance, independent, tied, reduction, check, Outcome, inside, verdict}
+use Rattle.model.specs.Field.{Kind, start, step, disturbance, independent, tied, reduction, check, inside, verdict}
 use Rattle.model.specs.Field.{meaning}
-use Rattle.model.specs.Run.{State, begin, noSet, current, tag, body, kindOf, meant, refusal, accepted, after, outcome}
+use Rattle.model.specs.Run.{State, noSet, current, tag, body, kindOf, meant, refusal, accepted, after, outcome}
 use Rattle.model.specs.Points.{Vector, Point, InRange}
-use Rattle.model.specs.Motion.{Picks, Allowed, Moment, beginning, offsetLimit, move, valuesAfter, follow, InBox, Unsafe, Kept}
+use Rattle.model.specs.Motion.{Picks, Moment, beginning, move, valuesAfter, follow, InBox, Unsafe, Kept}
 use Rattle.model.specs.Motion.{Always, Enclosed}
 use Rattle.model.proofs.Held.{Held}
-use Rattle.model.proofs.Accepted.{Accepted, Passed, accepted-passed}
-use Rattle.model.proofs.ByKind.{starts, dimension-same}
+use Rattle.model.proofs.Accepted.{Passed, accepted-passed}
+use Rattle.model.proofs.ByKind.{dimension-same}
 use Rattle.model.proofs.Sound.{Sound, begin-sound, after-sound, current-held}
 use Rattle.model.proofs.BoxPoint.{box-point}
 use Rattle.model.proofs.SafePoint.{safe-point}

@@ -2,7 +2,7 @@
 use mathlib.Core.Path.{_≡_, refl, sym, _∙_, ap, ap₂, subst, subst₂, fun-ext}
 use mathlib.Core.List.{List, [], _∷_, _++_}
 use mathlib.Core.Bool.{Bool, true, false}
-use Prim.Native.Nat.{ℕ, zero, suc, _+_}
+use Prim.Native.Nat.{ℕ, suc, _+_}
 use native.Mathlib.Omega.{arith}
 use lib.Dec.{T}
 use lib.IntN.{ℤ, pos, negsuc, negℤ, natAbs, _+ℤ_, _-ℤ_}
@@ -13,15 +13,15 @@ use Rattle.rational.specs.Rational.{ℚ, _+ℚ_, _*ℚ_, negℚ, ι, 0ℚ, 1ℚ
 use Rattle.rational.specs.Ring.{+ℚ-assoc, *ℚ-one, negℚ-+, negℚ-*, negℚ-negℚ}
 use Rattle.rational.specs.Pinned.{ι-+, ι-neg}
 use Rattle.rational.specs.Sign.{NonNeg-*, NonNeg-ι}
-use Rattle.rational.specs.Order.{NonNeg-≤, ≤ℚ-refl, ≤ℚ-trans, ≤ℚ-+, ≤ℚ-*, ≤ℚ-neg}
+use Rattle.rational.specs.Order.{NonNeg-≤, ≤ℚ-refl, ≤ℚ-+, ≤ℚ-*, ≤ℚ-neg}
 use Rattle.rational.specs.Bounds.{Within, within-+, within-NonNeg, within-scaled, within-ι}
 use Rattle.rational.specs.Near.{Near, near-neg, near-as}
 use Rattle.rational.specs.Sum.{sum, sum-++, All, none, more}
 use Rattle.model.specs.Set.{Term, Zonotope}
 use Rattle.model.specs.Finish.{allEven}
-use Rattle.model.specs.Operations.{least, greatest, lowEnd, highEnd, width}
-use Rattle.model.specs.Points.{Vector, monomial, Point, InRange}
-use Rattle.model.proofs.Parts.{Part, termPart, generatorPart, termParts, generatorParts, partsOf, monomial-within, monomial-even}
+use Rattle.model.specs.Operations.{least, lowEnd, highEnd}
+use Rattle.model.specs.Points.{Vector, Point, InRange}
+use Rattle.model.proofs.Parts.{Part, termParts, generatorParts, partsOf, monomial-within, monomial-even}
 
 -- ---- one coefficient
 -- the least that g comes to at a number in [-1,1], in [0,1] for an even monomial

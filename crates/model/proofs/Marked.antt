@@ -1,7 +1,7 @@
 -- Document 01's marked cases, computed by the definitions.
 use mathlib.Core.Path.{_≡_, refl}
 use mathlib.Core.List.{List, [], _∷_, _++_}
-use mathlib.Core.Option.{Option, none, some}
+use mathlib.Core.Option.{none, some}
 use Prim.Native.Nat.{ℕ}
 use lib.IntN.{ℤ, pos, negsuc}
 use Rattle.whole.specs.Half.{half, halfSize}
@@ -12,15 +12,14 @@ use Rattle.whole.proofs.Marked as Whole
 use Rattle.rational.specs.Power.{even}
 use Rattle.model.specs.Limits.{standardWeights}
 use Rattle.model.specs.Set.{Term, Zonotope, termSizes, generatorSizes, span, longer}
-use Rattle.model.specs.Valid.{order, rises, badCounts, badRange, badOrder, tooWide}
+use Rattle.model.specs.Valid.{order, rises, badRange, badOrder, tooWide}
 use Rattle.model.specs.Finish.{Core, insert, collectInto, those, shift, growth, foldVector, foldTerm, foldAll, size, smallest}
 use Rattle.model.specs.Finish.{foldSmallest, foldTimes, keepAt, collectTerms, dropZeroTerms, dropZeroGenerators, foldHigh}
 use Rattle.model.specs.Finish.{foldTerms}
 use Rattle.model.specs.Finish.{foldGenerators, dropUnused, finish}
 use Rattle.model.specs.Step.{Step, dot, bilinear, rawCentre, rawLinear, rawSquare, rawPair, pairs, remainder, raw, inexactAt}
 use Rattle.model.specs.Step.{roundedRadius, rounded, step}
-use Rattle.model.specs.Operations.{least, lowEnd, highEnd, box}
-use Rattle.model.specs.Bytes.{number, word, long}
+use Rattle.model.specs.Bytes.{number, word}
 use Rattle.model.specs.Body.{givenSet}
 use Rattle.model.specs.Field.{meaning}
 use Rattle.model.specs.Run.{begin, kindOf, firstOf, misplaced, cut, causes, refusal}

@@ -1,9 +1,8 @@
 -- Each kind of field keeps every motion: where the motion is in the given set at its values, it is in the field's result after it.
 -- A later kind of field joins the whole-run theorem by one more clause of `keeps`.
-use mathlib.Core.Path.{_≡_, refl, sym, _∙_, ap, subst}
+use mathlib.Core.Path.{_≡_, refl, sym, _∙_, ap}
 use mathlib.Core.List.{List}
 use mathlib.Core.Bool.{Bool, true, false, cond}
-use mathlib.Core.Logic.{_↔_}
 use Prim.Native.Nat.{ℕ, _+_, _-_, _<_, _≤_}
 use native.Mathlib.Omega.{arith}
 use lib.Dec.{ltb}
@@ -11,7 +10,7 @@ use lib.ListN.{length, getD}
 use lib.IntN.{pos}
 use borrow.Author.Tests.{lt-ltb, le-ltb}
 use Rattle.whole.specs.Tab.{tab, length-tab}
-use Rattle.rational.specs.Rational.{ℚ, _+ℚ_, ι, 1ℚ}
+use Rattle.rational.specs.Rational.{ℚ, ι, 1ℚ}
 use Rattle.rational.specs.Bounds.{Within}
 use Rattle.rational.specs.Sum.{All, All-imp}
 use Rattle.model.specs.Limits.{firstFresh, fileIdentifiers, maxTerms, maxGenerators, standardWeights}
@@ -22,9 +21,9 @@ use Rattle.model.specs.Operations.{reduce}
 use Rattle.model.specs.Body.{givenSet, givenStep, givenRadii, termLimit, generatorLimit}
 use Rattle.model.specs.Field.{Kind, start, step, disturbance, independent, tied, reduction, check, meaning}
 use Rattle.model.specs.Points.{Vector, Point, InRange}
-use Rattle.model.specs.Motion.{Picks, bodyPoint, offsetLimit, image, move, valuesAfter}
+use Rattle.model.specs.Motion.{Picks, bodyPoint, offsetLimit, move, valuesAfter}
 use Rattle.model.proofs.Tests.{all-tab, true-rises}
-use Rattle.model.proofs.Shape.{Valid, Ordered, ranged, in-order}
+use Rattle.model.proofs.Shape.{Valid, Ordered, ranged}
 use Rattle.model.proofs.Held.{Held}
 use Rattle.model.proofs.Accepted.{Passed, given-dimension}
 use Rattle.model.proofs.ByKind.{starts, body-valid, dimension-same}

@@ -1,20 +1,16 @@
 -- The fault that tore four drivers: where the next identifier does not rise, two independent sums share a factor, and the claim of demand 3
 -- is false. A start set 4096·α, an independent sum with 4096·α and one with -4096·α: the last two cancel, and a motion at 12,288 is left
 -- outside the box -4096 .. 4096.
-use mathlib.Core.Path.{_≡_, refl, sym, _∙_, ap, ap₂, subst}
+use mathlib.Core.Path.{_≡_, refl, _∙_, ap₂, subst}
 use mathlib.Core.List.{List, [], _∷_, _++_}
-use mathlib.Core.Bool.{Bool, true, false, cond}
 use Prim.Native.Nat.{ℕ, zero, suc, _+_, _<_}
-use native.Mathlib.Omega.{arith}
-use lib.Dec.{T, eqb, lit<}
-use lib.ListN.{length, getD}
-use lib.IntN.{ℤ, pos, negsuc, negℤ}
-use lib.Signed.{_≤ℤ_}
+use lib.Dec.{T, lit<}
+use lib.IntN.{ℤ, pos, negsuc}
 use Rattle.whole.specs.Half.{half, halfSize}
 use Rattle.whole.specs.Sum.{sumBy, uptoBy}
 use Rattle.whole.specs.Tab.{tab, any, all}
 use Rattle.rational.specs.Rational.{ℚ, _+ℚ_, _*ℚ_, negℚ, ι, 0ℚ, 1ℚ, _≤ℚ_}
-use Rattle.rational.specs.Ring.{+ℚ-zero, zero-+ℚ, *ℚ-one, one-*ℚ, *ℚ-negℚ}
+use Rattle.rational.specs.Ring.{+ℚ-zero, zero-+ℚ, *ℚ-one, *ℚ-negℚ}
 use Rattle.rational.specs.Pinned.{ι-+, ι-neg, ι-≤}
 use Rattle.rational.specs.Sign.{NonNeg-ι}
 use Rattle.rational.specs.Order.{NonNeg-≤}
@@ -22,7 +18,7 @@ use Rattle.rational.specs.Bounds.{Within, within-one, within-neg, within-NonNeg
 use Rattle.rational.specs.Power.{power, even}
 use Rattle.rational.specs.Sum.{sum}
 use Rattle.model.specs.Limits.{firstFresh}
-use Rattle.model.specs.Set.{Term, Zonotope, termSizes, generatorSizes, span, longer, at}
+use Rattle.model.specs.Set.{termSizes, generatorSizes, span, longer}
 use Rattle.model.specs.Valid.{order, rises, badRange, badOrder, tooWide}
 use Rattle.model.specs.Finish.{insert, collectInto, those, shift, growth, foldVector, foldAll, size, smallest, foldSmallest}
 use Rattle.model.specs.Finish.{foldTimes}
@@ -30,12 +26,12 @@ use Rattle.model.specs.Finish.{keepAt, collectTerms, dropZeroTerms, drop
 use Rattle.model.specs.Finish.{dropUnused, finish}
 use Rattle.model.specs.Operations.{insertIdentifier, union, align, joined, tiedSum, renumbered, independentSum, least, lowEnd}
 use Rattle.model.specs.Operations.{highEnd, box, Box}
-use Rattle.model.specs.Bytes.{number, word, long}
+use Rattle.model.specs.Bytes.{number, word}
 use Rattle.model.specs.Body.{givenSet}
 use Rattle.model.specs.Field.{meaning, inside}
-use Rattle.model.specs.Run.{State, begin, kindOf, firstOf, misplaced, cut, causes, accepted, after, outcome}
-use Rattle.model.specs.Points.{Vector, monomial, termsAt, generatorsAt, valueAt}
-use Rattle.model.specs.Motion.{Picks, Allowed, Moment, beginning, offsetLimit, bodyPoint, move, valuesAfter, follow, InBox, Kept}
+use Rattle.model.specs.Run.{kindOf, firstOf, misplaced, cut, causes, accepted, after, outcome}
+use Rattle.model.specs.Points.{monomial, termsAt, generatorsAt, valueAt}
+use Rattle.model.specs.Motion.{Picks, Allowed, Moment, beginning, move, follow, Kept}
 
 -- ---- the old edition: every field is given the next identifier with which the run began
 abbrev forgotten : Moment → Moment

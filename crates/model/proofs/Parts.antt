@@ -1,19 +1,19 @@
 -- Terms and generators alike, as parts: a vector times a number in [-1,1]. Points of a set by their parts, and what folding one does.
 use mathlib.Core.Path.{_≡_, refl, sym, _∙_, ap, ap₂, subst}
 use mathlib.Core.List.{List, [], _∷_, _++_}
-use mathlib.Core.Bool.{Bool, true, false, _&&_}
-use Prim.Native.Nat.{ℕ, zero, suc, _+_, _-_, _<_, _≤_}
+use mathlib.Core.Bool.{Bool, true, false}
+use Prim.Native.Nat.{ℕ, _+_, _-_, _<_, _≤_}
 use native.Mathlib.Omega.{arith}
 use lib.Dec.{T}
 use lib.ListN.{length}
-use lib.IntN.{ℤ, pos, negsuc, natAbs, _+ℤ_, _-ℤ_}
+use lib.IntN.{ℤ, pos, natAbs, _+ℤ_, _-ℤ_}
 use mir.Facts.{and-yes}
 use Rattle.whole.specs.AsNaturals.{as-ℕ}
 use Rattle.whole.specs.Half.{half, halfSize, half-zero, half-end}
 use Rattle.whole.specs.Tab.{all}
 use Rattle.rational.specs.Rational.{ℚ, _+ℚ_, _*ℚ_, negℚ, _-ℚ_, ι, 0ℚ, 1ℚ, NonNeg, _≤ℚ_}
 use Rattle.rational.specs.Ring.{ring, +ℚ-assoc, +ℚ-zero, +ℚ-neg, zero-+ℚ, one-*ℚ, *ℚ-one, *ℚ-zero, +ℚ-*ℚ}
-use Rattle.rational.specs.Pinned.{ι-+, ι-neg}
+use Rattle.rational.specs.Pinned.{ι-+}
 use Rattle.rational.specs.Sign.{NonNeg-*, NonNeg-ι}
 use Rattle.rational.specs.Order.{gap, gap-eq, ≤ℚ-refl, ι-mono}
 use Rattle.rational.specs.Bounds.{Within, within-+, within-*, within-neg, within-mono, within-NonNeg, within-ι, within-one, within-scaled}

@@ -1,21 +1,20 @@
 -- Where the check says safe, no point of the set is in the unsafe region.
-use mathlib.Core.Path.{_≡_, refl, sym, _∙_, ap, ap₂, subst, fun-ext}
+use mathlib.Core.Path.{_≡_, sym, _∙_, ap, ap₂}
 use mathlib.Core.List.{List, [], _∷_}
 use mathlib.Core.Bool.{Bool, true, false, _||_}
 use Prim.Native.Nat.{ℕ, _*_, _<_}
 use lib.Dec.{T}
-use lib.ListN.{length}
 use lib.IntN.{ℤ, pos, natAbs, _*ℤ_}
 use lib.Signed.{ltZ, ltZ-yes}
 use Rattle.whole.specs.Sum.{uptoℕ}
 use Rattle.whole.specs.Tab.{any}
-use Rattle.rational.specs.Rational.{ℚ, _+ℚ_, _*ℚ_, ι, 0ℚ, _≤ℚ_, _<ℚ_}
+use Rattle.rational.specs.Rational.{ℚ, _+ℚ_, _*ℚ_, ι, _≤ℚ_, _<ℚ_}
 use Rattle.rational.specs.Ring.{*ℚ-+ℚ, *ℚ-comm, ring}
 use Rattle.rational.specs.Pinned.{ι-*, ι-<}
 use Rattle.rational.specs.Order.{<ℚ-≤ℚ-trans}
-use Rattle.rational.specs.Bounds.{Within, within-*, within-ι}
+use Rattle.rational.specs.Bounds.{within-*, within-ι}
 use Rattle.rational.specs.Near.{Near, near-as}
-use Rattle.rational.specs.Sum.{sum, sum-+, sum-*, sum-near, sum-swap, sum-cong, All, none, more}
+use Rattle.rational.specs.Sum.{sum, sum-+, sum-*, sum-near, sum-swap, sum-cong, more}
 use Rattle.model.specs.Set.{Zonotope, at, radius}
 use Rattle.model.specs.Step.{dot}
 use Rattle.model.specs.Operations.{Halfspace, lowAlong, safe}

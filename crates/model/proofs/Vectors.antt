@@ -4,7 +4,7 @@ use mathlib.Core.List.{List, [], _∷_}
 use Prim.Native.Nat.{ℕ, zero, suc, _+_}
 use native.Mathlib.Nat.{suc-inj}
 use lib.ListN.{length, getD}
-use lib.IntN.{ℤ, pos, _+ℤ_}
+use lib.IntN.{ℤ, _+ℤ_}
 use Rattle.whole.specs.Sum.{Monoid, monoidℕ, monoidℤ}
 use Rattle.model.specs.Set.{longer, plusℤ, plusℕ, at}
 

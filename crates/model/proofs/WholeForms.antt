@@ -2,16 +2,16 @@
 use mathlib.Core.Path.{_≡_, refl, sym, _∙_, ap, ap₂, fun-ext}
 use mathlib.Core.List.{[], _∷_, _++_}
 use Prim.Native.Nat.{ℕ, zero, suc, _+_, _*_, _<_}
-use native.Mathlib.Omega.{arith}
 use lib.IntN.{ℤ, pos, _*ℤ_}
 use Rattle.whole.specs.Sum.{uptoBy, uptoℕ, uptoℤ}
-use Rattle.whole.specs.Tab.{tab}
+use Rattle.whole.specs.Tab.{tab, tab-end}
 use Rattle.rational.specs.Rational.{ℚ, _+ℚ_, _*ℚ_, ι, 0ℚ}
 use Rattle.rational.specs.Ring.{+ℚ-zero}
 use Rattle.rational.specs.Pinned.{ι-+, ι-*}
-use Rattle.rational.specs.Sum.{sum, sum-++, sum-cong, All, none, more}
+use Rattle.rational.specs.Sum.{sum, sum-++, sum-cong, All}
 use Rattle.model.specs.Step.{dot, bilinear}
 use Rattle.model.specs.Motion.{places}
+use Rattle.model.proofs.Tests.{all-tab}
 use Rattle.model.proofs.Forms.{dotℚ, row, bilinearℚ}
 
 -- ---- sums and products of naturals
@@ -22,19 +22,8 @@ pub ι-*ℕ : (m n : ℕ) → ι (pos (m * n)) ≡ ι (pos m) *ℚ ι (pos n)
 ι-*ℕ m n = ι-* (pos m) (pos n)
 
 -- ---- the places 0 .. n - 1
-module _ {A : Type 0} where
-  tab-end : (n : ℕ) (f : ℕ → A) → tab (suc n) f ≡ tab n f ++ (f n ∷ [])
-  unfolding tab
-  tab-end zero f = refl
-  tab-end (suc n) f = ap (f 0 ∷_) (tab-end n (λ j. f (suc j)))
-
-  All-tab : {P : A → Type 0} (n : ℕ) (f : ℕ → A) → ((j : ℕ) → j < n → P (f j)) → All P (tab n f)
-  unfolding tab
-  All-tab zero f h = none
-  All-tab (suc n) f h = more (h 0 (omega arith)) (All-tab n (λ j. f (suc j)) (λ j l. h (suc j) (omega arith)))
-
 pub All-places : {P : ℕ → Type 0} (n : ℕ) → ((j : ℕ) → j < n → P j) → All P (places n)
-All-places n h = All-tab n (λ j. j) h
+All-places n h = all-tab n (λ j. j) h
 
 -- a sum grown at its end, by what keeps zero and sums
 upto-sum : {M : Type 0} {z : M} {add : M → M → M} (h : M → ℚ) → h z ≡ 0ℚ → ((a b : M) → h (add a b) ≡ h a +ℚ h b)

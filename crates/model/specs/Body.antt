@@ -3,7 +3,7 @@ use mathlib.Core.List.{List, map}
 use Prim.Native.Nat.{ℕ, _+_, _*_}
 use lib.IntN.{ℤ, natAbs}
 use Rattle.whole.specs.Tab.{tab}
-use Rattle.model.specs.Set.{Term, Zonotope}
+use Rattle.model.specs.Set.{Zonotope}
 use Rattle.model.specs.Step.{Step}
 use Rattle.model.specs.Operations.{Halfspace}
 use Rattle.model.specs.Bytes.{byte, number, long, words}

@@ -1,7 +1,7 @@
 -- The kinds of field: what each asks of its body, in the order of the refusals, and what it gives. A later kind is one more clause of
 -- `meaning`.
-use mathlib.Core.List.{List, [], _∷_}
-use mathlib.Core.Bool.{Bool, true, false, not, _||_}
+use mathlib.Core.List.{List}
+use mathlib.Core.Bool.{Bool, false, not, _||_}
 use Prim.Native.Nat.{ℕ, _+_, _*_}
 use lib.Dec.{ltb, eqb}
 use lib.ListN.{length}
@@ -14,7 +14,6 @@ use Rattle.model.specs.Set.{Zonotope}
 use Rattle.model.specs.Valid.{badRange, badOrder, tooWide}
 use Rattle.model.specs.Step as Step
 use Rattle.model.specs.Operations.{tiedSum, independentSum, renumbered, union, disturb, reduce, Box, box, safe}
-use Rattle.model.specs.Bytes.{byte}
 use Rattle.model.specs.Body.{dimension, factors, termCount, generatorCount, setLength, radiusWords, givenSet, stepRows, stepColumns}
 use Rattle.model.specs.Body.{stepLength, givenStep, disturbanceWords, givenRadii, termLimit, generatorLimit, halfspaceCount}
 use Rattle.model.specs.Body.{halfspaceAt, givenHalfspaces}

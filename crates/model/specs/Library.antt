@@ -1,12 +1,12 @@
 -- Single operations on records: which refusal a call gives, by the causes in their order, and what it gives where none holds.
 -- A refusal gives the first set back as it came.
 use mathlib.Core.List.{List, [], _∷_, _++_}
-use mathlib.Core.Option.{Option, none, some}
-use mathlib.Core.Bool.{Bool, true, false, not, _||_}
+use mathlib.Core.Option.{Option}
+use mathlib.Core.Bool.{Bool, not, _||_}
 use Prim.Native.Nat.{ℕ, _*_, _+_}
 use lib.Dec.{ltb, eqb}
 use lib.ListN.{length}
-use lib.IntN.{ℤ, natAbs}
+use lib.IntN.{ℤ}
 use Rattle.whole.specs.Tab.{any}
 use Rattle.model.specs.Limits.{recordIdentifiers, firstFresh, lastFresh, maxTerms, maxGenerators, maxHalfspaces, maxEntry}
 use Rattle.model.specs.Limits.{maxConstant}
@@ -14,7 +14,7 @@ use Rattle.model.specs.Limits.{maxDisturbance, maxBound, standardWeights
 use Rattle.model.specs.Set.{Zonotope}
 use Rattle.model.specs.Valid.{badCounts, badRange, badOrder, tooWide}
 use Rattle.model.specs.Step as Step
-use Rattle.model.specs.Operations.{tiedSum, independentSum, renumbered, disturb, reduce, Box, box, Halfspace, safe}
+use Rattle.model.specs.Operations.{tiedSum, independentSum, renumbered, disturb, reduce}
 use Rattle.model.specs.Field.{badDimension, beyond, differs, tooMany}
 use Rattle.model.specs.Run.{Cause, _if_, firstOf}
 

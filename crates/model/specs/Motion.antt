@@ -5,7 +5,7 @@ use mathlib.Core.Bool.{true, cond}
 use Prim.Native.Nat.{ℕ, suc, _+_, _-_, _<_}
 use lib.Dec.{T, ltb}
 use lib.ListN.{length, getD}
-use lib.IntN.{ℤ, pos}
+use lib.IntN.{pos}
 use Rattle.whole.specs.Round.{scale}
 use Rattle.whole.specs.Tab.{tab}
 use Rattle.rational.specs.Rational.{ℚ, _+ℚ_, _*ℚ_, ι, _over_, 0ℚ, 1ℚ, _≤ℚ_}

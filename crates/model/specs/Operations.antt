@@ -1,7 +1,7 @@
 -- Sums, disturbance, reduction, the box and the check.
 use mathlib.Core.List.{List, [], _∷_, _++_, map}
 use mathlib.Core.Bool.{Bool, true, false, cond}
-use Prim.Native.Nat.{ℕ, zero, suc, _+_, _*_}
+use Prim.Native.Nat.{ℕ, _+_, _*_}
 use lib.Dec.{ltb, eqb}
 use lib.ListN.{length}
 use lib.IntN.{ℤ, pos, negsuc, negℤ, natAbs, _+ℤ_, _-ℤ_}
@@ -9,7 +9,7 @@ use lib.Signed.{ltZ}
 use Rattle.whole.specs.Sum.{sumℕ, sumℤ, uptoℕ}
 use Rattle.whole.specs.Tab.{tab, any}
 use Rattle.model.specs.Limits.{maxTerms, maxGenerators}
-use Rattle.model.specs.Set.{Term, Zonotope, at, radius, generatorSizes, plusℤ, plusℕ}
+use Rattle.model.specs.Set.{Term, Zonotope, at, radius, plusℤ, plusℕ}
 use Rattle.model.specs.Finish.{finish, allEven}
 use Rattle.model.specs.Step.{dot}
 

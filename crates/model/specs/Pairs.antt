@@ -1,5 +1,5 @@
 -- The pair table's rule: the pairs of n terms in row order, (0,0), (0,1) .. (n-1,n-1), each as the code n·first + second.
-use mathlib.Core.List.{List, [], _∷_, _++_}
+use mathlib.Core.List.{List, [], _++_}
 use Prim.Native.Nat.{ℕ, zero, suc, _+_, _*_}
 use Rattle.whole.specs.Tab.{tab}
 

@@ -1,7 +1,6 @@
 -- The polynomial step x' = c + Ax + Q(x, x), as Proposition 13 of source document 001 with a coarser and simpler remainder.
 use mathlib.Core.List.{List, [], _∷_, _++_, map}
-use Prim.Native.Nat.{ℕ, suc, _+_, _*_, _/_}
-use lib.ListN.{getD}
+use Prim.Native.Nat.{ℕ, _+_, _*_, _/_}
 use lib.IntN.{ℤ, pos, natAbs, _+ℤ_, _*ℤ_}
 use Rattle.whole.specs.Round.{scale, round, inexact}
 use Rattle.whole.specs.Sum.{sumℕ, uptoℕ, uptoℤ}

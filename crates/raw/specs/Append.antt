@@ -1,13 +1,13 @@
 -- Rows of terms that are written after one another in work slices.
 use mathlib.Core.List.{List, [], _∷_, _++_}
-use mathlib.Core.Path.{_≡_, refl, _∙_, ap, ap₂}
-use Prim.Native.Nat.{ℕ, zero, suc, _+_, _*_, _-_, _<_, _≤_}
+use mathlib.Core.Path.{_≡_, _∙_, ap₂}
+use Prim.Native.Nat.{ℕ, _+_, _*_, _-_, _<_, _≤_}
 use native.Mathlib.Decide.{decLt}
 use native.Mathlib.Numerals.{add-one}
 use native.Mathlib.Omega.{arith}
 use lib.IntN.{ℤ, pos, natAbs}
 use lib.ListN.{length, getD}
-use Rattle.whole.specs.Tab.{tab, tab-cong}
+use Rattle.whole.specs.Tab.{tab, tab-cong, tab-end}
 use Rattle.whole.specs.Write.{write, write-at, write-before, write-after}
 use Rattle.rows.specs.Rows.{termOf, rowsOf, Small}
 use Rattle.model.specs.Set.{Term, at}
@@ -28,11 +28,6 @@ pub record Kept {X : Type 0} (d : X) (n : ℕ) (before after : List X) : Type 0 
 pub term-same : {a b : List ℕ} {c d : List ℤ} → a ≡ b → c ≡ d
     → _≡_ {A = Term} (record { exponents = a; coefficients = c }) (record { exponents = b; coefficients = d })
 term-same h l = ap₂ (λ (x : List ℕ) (y : List ℤ). record { exponents = x; coefficients = y }) h l
-
-tab-end : {A : Type 0} (n : ℕ) (f : ℕ → A) → tab (suc n) f ≡ tab n f ++ (f n ∷ [])
-unfolding tab
-tab-end zero f = refl
-tab-end (suc n) f = ap (f 0 ∷_) (tab-end n (λ j. f (suc j)))
 
 -- ---- one more row
 module _ (e : List ℕ) (w : List ℤ) (r : ℕ) (G : ℕ → ℕ) (F : ℕ → ℤ) (le : r * 12 + 12 ≤ length e) (lw : r * 6 + 6 ≤ length w) where

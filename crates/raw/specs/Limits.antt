@@ -11,6 +11,8 @@ use lib.IntN.{ℤ, pos, natAbs}
 use lib.ListN.{length, getD, List·getD-eq-default}
 use Rattle.whole.specs.Sum.{monoidℕ, uptoℕ, upto-cong}
 use Rattle.whole.specs.Tab.{any, getD-tab, getD-tab-past}
+use Rattle.whole.specs.Tests.{none-at}
+use Rattle.model.proofs.Tests.{or-false}
 use Rattle.rows.specs.Rows.{Small}
 use Rattle.model.specs.Limits.{recordIdentifiers}
 use Rattle.model.specs.Set.{at, radius, termSizes, generatorSizes, span}
@@ -19,7 +21,6 @@ use Rattle.zonotope.specs.Record.{view}
 use Rattle.zonotope.specs.declared.PolyZonotope.{PolyZonotope}
 use Rattle.forms.specs.Dot.{upto-zero}
 use Rattle.forms.specs.Tables.{rowOf}
-use Rattle.raw.specs.Tests.{neither, none-of}
 use Rattle.raw.specs.Sums.{sum-tab, upto-has}
 use Rattle.raw.specs.Accepted.{Accepted, Sized}
 use Rattle.raw.specs.Unused.{termAt, generatorAt, counts-in, no-exponents, no-coefficients, no-vectors}
@@ -61,7 +62,7 @@ module _ (s : PolyZonotope) (ok : Accepted s) where
 
   span-in : (j : ℕ) → j < s .dimension → span (view s) j ≤ 1048576
   unfolding tooWide view
-  span-in j l = ltb-false 1048576 (span (view s) j) (none-of (λ i. ltb 1048576 (span (view s) i)) (s .dimension) (λ i. i) (ok .narrow) j l)
+  span-in j l = ltb-false 1048576 (span (view s) j) (none-at (λ i. ltb 1048576 (span (view s) i)) (s .dimension) (λ i. i) (ok .narrow) j l)
 
   span-out : (j : ℕ) → s .dimension ≤ j → span (view s) j ≡ 0
   unfolding span termSizes generatorSizes view
@@ -98,13 +99,13 @@ module _ (s : PolyZonotope) (ok : Accepted s) where
           at-row : Dec (k < s .factors) → getD (termAt s t .exponents) k 0 < 64
           at-row (yes q) =
               let identifiers = any (λ k. eqb k 0 || ltb recordIdentifiers k) (view s .identifiers) in
-              let a = neither identifiers (any (λ u. any (ltb 63) (u .exponents)) (view s .terms)) (ok .range) .1 in
-              let b = none-of (λ u. any (ltb 63) (u .exponents)) (s .terms) (termAt s) a t p in
+              let a = or-false identifiers (any (λ u. any (ltb 63) (u .exponents)) (view s .terms)) (ok .range) .1 in
+              let b = none-at (λ u. any (ltb 63) (u .exponents)) (s .terms) (termAt s) a t p in
               rw (getD-tab (s .factors) (λ i. getD (s .exponents) (t * 12 + i) 0) 0 k q)
               (omega (
                 arith,
                 ltb-false 63 (getD (s .exponents) (t * 12 + k) 0)
-                    (none-of (ltb 63) (s .factors) (λ i. getD (s .exponents) (t * 12 + i) 0) b k q),
+                    (none-at (ltb 63) (s .factors) (λ i. getD (s .exponents) (t * 12 + i) 0) b k q),
               ))
           at-row (no q) = rw (getD-tab-past (s .factors) (λ i. getD (s .exponents) (t * 12 + i) 0) 0 k (omega arith)) (omega arith)
       go (no p) =

@@ -2,21 +2,17 @@
 use mathlib.Core.Bool.{Bool, true, false, not, _&&_, _||_}
 use mathlib.Core.List.{List, [], _∷_}
 use mathlib.Core.Path.{_≡_, refl, ap}
-use Prim.Native.Nat.{ℕ, zero, suc, _<_, _≤_}
-use native.Mathlib.Nat.{le-of-suc-le-suc}
+use Prim.Native.Nat.{ℕ, zero, suc, _≤_}
 use native.Mathlib.Omega.{arith}
 use borrow.Author.Tests.{ltb-false, not-false}
 use lib.IntN.{ℤ, natAbs}
-use Rattle.whole.specs.Tab.{tab, any}
+use Rattle.whole.specs.Tab.{any}
+use Rattle.model.proofs.Tests.{or-false}
 use Rattle.rows.specs.Rows.{Small}
 use Rattle.model.specs.Set.{at}
 use Rattle.model.specs.Field.{beyond}
 
-pub neither : (a b : Bool) → (a || b) ≡ false → (a ≡ false) × (b ≡ false)
-neither true b h = (h, cc)
-neither false b h = (refl, h)
-
--- an unused place's test: it is neither used nor free
+-- an unused place's test: it is or-false used nor free
 pub free : (used empty : Bool) → not (used || empty) ≡ false → used ≡ false → empty ≡ true
 free true empty h u = cc
 free false empty h u = not-false empty h
@@ -28,13 +24,6 @@ pub no-column : (a b : Bool) → b ≡ false → (a && b) ≡ false
 no-column true b h = h
 no-column false b h = refl
 
-pub none-of : {A : Type 0} (p : A → Bool) (n : ℕ) (f : ℕ → A) → any p (tab n f) ≡ false → (i : ℕ) → i < n → p (f i) ≡ false
-unfolding any tab
-none-of p zero f h i l = absurd (omega arith)
-none-of p (suc n) f h zero l = neither (p (f 0)) (any p (tab n (λ i. f (suc i)))) h .0
-none-of p (suc n) f h (suc i) l = none-of p n (λ i. f (suc i)) (neither (p (f 0)) (any p (tab n (λ i. f (suc i)))) h .1) i
-    (le-of-suc-le-suc l)
-
 -- where no entry is beyond K, all are small
 pub none-beyond : (K : ℕ) (xs : List ℤ) → any (beyond K) xs ≡ false → Small K xs
 unfolding any
@@ -42,5 +31,5 @@ none-beyond K xs h = record { small = go xs h }
   where
     go : (xs : List ℤ) → any (beyond K) xs ≡ false → (i : ℕ) → natAbs (at xs i) ≤ K
     go [] h i = omega arith
-    go (x ∷ xs) h zero = ltb-false K (natAbs x) (neither (beyond K x) (any (beyond K) xs) h .0)
-    go (x ∷ xs) h (suc i) = go xs (neither (beyond K x) (any (beyond K) xs) h .1) i
+    go (x ∷ xs) h zero = ltb-false K (natAbs x) (or-false (beyond K x) (any (beyond K) xs) h .0)
+    go (x ∷ xs) h (suc i) = go xs (or-false (beyond K x) (any (beyond K) xs) h .1) i

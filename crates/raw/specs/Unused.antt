@@ -11,12 +11,14 @@ use lib.IntN.{ℤ, pos, natAbs}
 use lib.ListN.{length, getD}
 use Rattle.whole.specs.Size.{abs-zero}
 use Rattle.whole.specs.Tab.{tab, length-tab, getD-tab, getD-tab-past}
+use Rattle.whole.specs.Tests.{none-at}
+use Rattle.model.proofs.Tests.{or-false}
 use Rattle.model.specs.Set.{Term, at, radius}
 use Rattle.model.specs.Valid.{badCounts}
 use Rattle.zonotope.specs.Record.{row, view, spareℕ, spareℤ, inRows, spare}
 use Rattle.zonotope.specs.declared.PolyZonotope.{PolyZonotope}
 use Rattle.forms.specs.Tables.{rowOf}
-use Rattle.raw.specs.Tests.{neither, free, no-row, no-column, none-of}
+use Rattle.raw.specs.Tests.{free, no-row, no-column}
 use Rattle.raw.specs.Accepted.{Accepted}
 
 -- term t of a record
@@ -34,11 +36,11 @@ generatorAt s t = row 6 (pos 0) (s .vectors) t (s .dimension)
 unusedℤ : (xs : List ℤ) (n : ℕ) (used : ℕ → Bool) → spareℤ xs n used ≡ false → (x : ℕ) → x < n → used x ≡ false → at xs x ≡ pos 0
 unusedℤ xs n used h x l u =
     abs-zero (eqb-true (natAbs (at xs x)) 0
-    (free (used x) (eqb (natAbs (at xs x)) 0) (none-of (λ y. not (used y || eqb (natAbs (at xs y)) 0)) n (λ y. y) h x l) u))
+    (free (used x) (eqb (natAbs (at xs x)) 0) (none-at (λ y. not (used y || eqb (natAbs (at xs y)) 0)) n (λ y. y) h x l) u))
 
 unusedℕ : (xs : List ℕ) (n : ℕ) (used : ℕ → Bool) → spareℕ xs n used ≡ false → (x : ℕ) → x < n → used x ≡ false → getD xs x 0 ≡ 0
 unusedℕ xs n used h x l u =
-    eqb-true (getD xs x 0) 0 (free (used x) (eqb (getD xs x 0) 0) (none-of (λ y. not (used y || eqb (getD xs y 0) 0)) n (λ y. y) h x l) u)
+    eqb-true (getD xs x 0) 0 (free (used x) (eqb (getD xs x 0) 0) (none-at (λ y. not (used y || eqb (getD xs y 0) 0)) n (λ y. y) h x l) u)
 
 past-row : (w rows columns x : ℕ) → rows ≤ x / w → inRows w rows columns x ≡ false
 past-row w rows columns x h = no-row (ltb (x / w) rows) (ltb (x % w) columns) (le-ltb (x / w) rows h)
@@ -63,10 +65,10 @@ module _ (s : PolyZonotope) (ok : Accepted s) where
       let factors = ltb 12 (length (tab (s .factors) (λ k. getD (s .identifiers) k 0))) in
       let terms = ltb 40 (length (tab (s .terms) (termAt s))) in
       let generators = ltb 24 (length (tab (s .generators) (generatorAt s))) in
-      let a = neither (no-dimension || dimension || factors || terms) generators (ok .counts) in
-      let b = neither (no-dimension || dimension || factors) terms (a .0) in
-      let c = neither (no-dimension || dimension) factors (b .0) in
-      let d = neither no-dimension dimension (c .0) in (
+      let a = or-false (no-dimension || dimension || factors || terms) generators (ok .counts) in
+      let b = or-false (no-dimension || dimension || factors) terms (a .0) in
+      let c = or-false (no-dimension || dimension) factors (b .0) in
+      let d = or-false no-dimension dimension (c .0) in (
         ltb-false 6 (s .dimension) (d .1),
         rw length-tab at (ltb-false 12 (length (tab (s .factors) (λ k. getD (s .identifiers) k 0))) (c .1)),
         rw length-tab at (ltb-false 40 (length (tab (s .terms) (termAt s))) (b .1)),
@@ -86,11 +88,11 @@ module _ (s : PolyZonotope) (ok : Accepted s) where
       let coefficients = spareℤ (s .coefficients) 240 (inRows 6 (s .terms) (s .dimension)) in
       let vectors = spareℤ (s .vectors) 144 (inRows 6 (s .generators) (s .dimension)) in
       let radii = spareℕ (s .radii) 6 (λ i. ltb i (s .dimension)) in
-      let a = neither (identifiers || centre || exponents || coefficients || vectors) radii (ok .unused) in
-      let b = neither (identifiers || centre || exponents || coefficients) vectors (a .0) in
-      let c = neither (identifiers || centre || exponents) coefficients (b .0) in
-      let d = neither (identifiers || centre) exponents (c .0) in
-      let e = neither identifiers centre (d .0) in
+      let a = or-false (identifiers || centre || exponents || coefficients || vectors) radii (ok .unused) in
+      let b = or-false (identifiers || centre || exponents || coefficients) vectors (a .0) in
+      let c = or-false (identifiers || centre || exponents) coefficients (b .0) in
+      let d = or-false (identifiers || centre) exponents (c .0) in
+      let e = or-false identifiers centre (d .0) in
       (e .1, d .1, c .1, b .1, a .1)
 
   -- rows past the counts

@@ -1,30 +1,17 @@
--- Parts of slices: what is read of them, and slices whose first places are written 0.
+-- A slice whose first places are written anew, and what a work slice is left with.
 use mathlib.Core.Path.{_≡_, refl, sym, ap, _∙_}
-use mathlib.Core.List.{List, [], _∷_, _++_}
+use mathlib.Core.List.{List, _∷_, _++_}
 use mathlib.Core.Bool.{true, false}
 use mathlib.Core.Option.{Option}
-use Prim.Native.Nat.{ℕ, zero, suc, _+_, _-_, _<_, _≤_}
-use native.Mathlib.Nat.{zero-add, suc-add, le-of-suc-le-suc}
+use Prim.Native.Nat.{ℕ, zero, suc, _+_, _-_, _≤_}
 use native.Mathlib.Omega.{arith}
-use lib.ListN.{length, getD, take, drop, replicate, length-drop}
+use lib.ListN.{length, take, drop, replicate, length-drop}
 use lib.Seq.{ext-getD, length-take-le}
 use Rattle.whole.specs.Tab.{tab}
-use Rattle.whole.specs.Write.{write, write-part}
-use Rattle.forms.specs.Filling.{Writing, writing-ends, write-all}
+use Rattle.whole.specs.Write.{write, write-all, write-part, getD-drop}
+use Rattle.forms.specs.Filling.{Writing, writing-ends}
 use Rattle.raw.specs.Append.{Kept}
 use Rattle.step.specs.Answer.{worked, leftIn}
-
--- ---- what is read of the first places, and of the others
-pub getD-take : {A : Type 0} (n : ℕ) (xs : List A) (k : ℕ) (d : A) → k < n → getD (take n xs) k d ≡ getD xs k d
-getD-take zero xs k d h = absurd (omega arith)
-getD-take (suc n) [] k d h = refl
-getD-take (suc n) (x ∷ xs) zero d h = refl
-getD-take (suc n) (x ∷ xs) (suc k) d h = getD-take n xs k d (le-of-suc-le-suc h)
-
-getD-drop : {A : Type 0} (n : ℕ) (xs : List A) (k : ℕ) (d : A) → getD (drop n xs) k d ≡ getD xs (n + k) d
-getD-drop zero xs k d = ap (λ (i : ℕ). getD xs i d) (sym (zero-add k))
-getD-drop (suc n) [] k d = refl
-getD-drop (suc n) (x ∷ xs) k d = getD-drop n xs k d ∙ ap (λ (i : ℕ). getD (x ∷ xs) i d) (sym (suc-add n k))
 
 -- ---- the first n places written with d
 tab-same : {A : Type 0} (n : ℕ) (d : A) → tab n (λ i. d) ≡ replicate n d
@@ -36,7 +23,7 @@ module _ {A : Type 0} (d : A) (n : ℕ) (xs : List A) (fits : n ≤ length xs) w
   cleared : write xs 0 (λ i. d) n ≡ replicate n d ++ drop n xs
   cleared =
       sym (write-part xs 0 n (λ i. d) (omega arith) n (omega arith))
-      ∙ ap (_++ drop n xs) (write-all d n (λ i. d) (take n xs) (length-take-le n xs fits) ∙ tab-same n d)
+      ∙ ap (_++ drop n xs) (write-all (take n xs) (λ i. d) d n (length-take-le n xs fits) ∙ tab-same n d)
 
   -- a loop that writes them has done so
   pub clearing-ends : (k : ℕ) (w : List A) → Writing xs 0 (λ i. d) n k w → n ≤ k → w ≡ replicate n d ++ drop n xs

@@ -1,24 +1,24 @@
 -- The rounded image of an accepted set in rows: a set in wide form, with numbers for which nothing overflows.
 use mathlib.Core.Path.{_≡_, refl, sym, ap, ap₂, _∙_}
-use mathlib.Core.List.{List, [], _∷_, map}
-use Prim.Native.Nat.{ℕ, _+_, _*_, _-_, _/_, _%_, _^_, _<_, _≤_}
+use mathlib.Core.List.{List, [], map}
+use Prim.Native.Nat.{ℕ, _+_, _*_, _-_, _<_, _≤_}
 use native.Mathlib.Decide.{decLt}
 use native.Mathlib.Omega.{arith}
 use lib.ListN.{length, getD, take, length-map, List·getD-eq-default}
 use lib.Seq.{length-take-le}
 use lib.IntN.{ℤ, pos, natAbs}
 use Rattle.whole.specs.Round.{round}
-use Rattle.whole.specs.Tab.{tab, length-tab, getD-tab, tab-cong, tab-getD, map-tab}
+use Rattle.whole.specs.Tab.{tab, length-tab, tab-cong, tab-getD, map-tab, tab-row}
+use Rattle.whole.specs.Write.{getD-take}
 use Rattle.model.specs.Limits.{maxTerms, maxGenerators, standardWeights}
-use Rattle.model.specs.Set.{Term, Zonotope, at}
+use Rattle.model.specs.Set.{Zonotope, at}
 use Rattle.model.specs.Finish.{finish}
 use Rattle.model.specs.Step.{Step, raw, rounded, step, rawLinear}
 use Rattle.model.proofs.StepShape.{step-ready}
 use Rattle.zonotope.specs.declared.PolyZonotope.{PolyZonotope}
 use Rattle.zonotope.specs.Record.{view}
 use Rattle.zonotope.specs.Counts.{InLimits, in-limits}
-use Rattle.rows.specs.Rows.{numberRow, termOf, rowsOf, Small}
-use Rattle.fold.specs.Folding.{Under}
+use Rattle.rows.specs.Rows.{numberRow, rowsOf, Small}
 use Rattle.raw.specs.Accepted as Raw
 use Rattle.raw.specs.Unused.{generatorAt}
 use Rattle.raw.specs.Append.{Bounded, Kept, term-same}
@@ -35,7 +35,6 @@ use Rattle.finish.specs.WideFinish.{Narrow}
 use Rattle.answers.specs.Accepted.{Accepted, ready}
 use Rattle.answers.specs.Finishing.{Finishable, finished-held}
 use Rattle.step.specs.Answer.{workNumbers, workExponents}
-use Rattle.step.specs.Cleared.{getD-take}
 
 -- the image without its terms and generators
 abbrev pub unfinishedImage : Step → PolyZonotope → Image → Unfinished
@@ -80,11 +79,7 @@ part-small K n w fits b = record { small = λ i. go i (decLt i n) }
 -- ---- generators in rows of six
 vector-rows : (gs : List (List ℤ)) → length gs ≤ 24 → tab (length gs) (numberRow (wideVectors gs)) ≡ map wideVector gs
 vector-rows gs few =
-    tab-cong (length gs) _ (λ t. wideVector (getD gs t [])) (λ t h. tab-cong 6 _ _ (λ i l.
-    let x : t * 6 + i < 144 = omega arith in
-    let q : (t * 6 + i) / 6 ≡ t = omega arith in
-    let r : (t * 6 + i) % 6 ≡ i = omega arith in
-    getD-tab 144 (λ x. at (getD gs (x / 6) []) (x % 6)) (pos 0) (t * 6 + i) x ∙ ap₂ (λ (a b : ℕ). at (getD gs a []) b) q r))
+    tab-cong (length gs) _ (λ t. wideVector (getD gs t [])) (λ t h. tab-row (pos 0) 6 144 t (λ q i. at (getD gs q []) i) (omega arith))
     ∙ sym (map-tab wideVector (length gs) (λ t. getD gs t []))
     ∙ ap (map wideVector) (tab-getD (length gs) gs [] refl)
 

@@ -9,7 +9,6 @@ use lib.Dec.{ltb, eqb}
 use lib.ListN.{length}
 use Rattle.whole.specs.Tab.{any, all}
 use Rattle.model.specs.Limits.{maxConstant, maxEntry, standardWeights}
-use Rattle.model.specs.Set.{Zonotope}
 use Rattle.model.specs.Valid.{tooWide}
 use Rattle.model.specs.Step as Step
 use Rattle.model.specs.Step.{Step}
@@ -22,7 +21,7 @@ use Rattle.zonotope.specs.declared.Examined.{Examined}
 use Rattle.zonotope.specs.Record.{given}
 use Rattle.zonotope.specs.Shape.{Sized}
 use Rattle.zonotope.specs.Valid.{valid, passed}
-use Rattle.zonotope.specs.Tests.{or-left, or-right}
+use Rattle.whole.specs.Tests.{or-left, or-right}
 use Rattle.zonotope.specs.Answer.{examined, orElse, first-append}
 use Rattle.image.specs.StepAccepted.{StepAccepted}
 use Rattle.answers.specs.Answer.{ofResult, isRefused, none-refuses}

@@ -1,7 +1,6 @@
 // The polynomial step x' = c + Ax + Q(x, x) of a set, in lent work slices.
 ghost use mathlib.Core.Path.{_≡_};
 ghost use lib.IntN.{pos};
-ghost use lib.ListN.{length};
 ghost use Rattle.model.specs.Limits.{standardWeights};
 ghost use Rattle.model.specs.Step.{step};
 ghost use Rattle.zonotope.specs.Record.{view, given};

@@ -2,12 +2,11 @@
 ghost use mathlib.Core.Path.{_≡_};
 ghost use mathlib.Core.Bool.{_||_};
 ghost use Prim.Native.Nat.{_*_, _≤_};
-ghost use lib.ListN.{length};
 ghost use Rattle.model.specs.Field.{differs};
 ghost use Rattle.model.specs.Run.{firstOf};
 ghost use Rattle.zonotope.specs.Record.{given};
 ghost use Rattle.zonotope.specs.Shape.{Sized};
-ghost use Rattle.zonotope.specs.Answer.{examined, orElse};
+ghost use Rattle.zonotope.specs.Answer.{examined};
 ghost use Rattle.image.specs.StepAccepted.{stepOf};
 ghost use Rattle.step.specs.Answer.{noRoom};
 ghost use Rattle.step.specs.Order.{beforeStepping, ofArguments, ofSetAndStep};

@@ -12,7 +12,7 @@ use Rattle.zonotope.specs.declared.PolyZonotope.{PolyZonotope}
 use Rattle.zonotope.specs.Record.{given}
 use Rattle.zonotope.specs.Shape.{Sized}
 use Rattle.zonotope.specs.Valid.{valid, passed}
-use Rattle.zonotope.specs.Tests.{or-left, or-right}
+use Rattle.whole.specs.Tests.{or-left, or-right}
 use Rattle.align.specs.Examined.{Examined}
 use Rattle.answers.specs.Order.{neither}
 use Rattle.answers.specs.Accepted.{Accepted}

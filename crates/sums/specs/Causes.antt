@@ -1,8 +1,8 @@
 -- Each call's refusal, by its parts in their order: the first set, the other arguments, the result.
-use mathlib.Core.Path.{_≡_, refl, sym, ap, _∙_}
-use mathlib.Core.List.{List, [], _∷_, _++_}
-use mathlib.Core.Option.{Option, none, some}
-use mathlib.Core.Bool.{Bool, true, false, cond, _||_}
+use mathlib.Core.Path.{_≡_, ap, _∙_}
+use mathlib.Core.List.{List, [], _∷_}
+use mathlib.Core.Option.{Option}
+use mathlib.Core.Bool.{true, false, _||_}
 use Prim.Native.Nat.{ℕ}
 use borrow.Author.Tests.{eq-eqb, ne-eqb}
 use lib.Dec.{ltb}
@@ -14,10 +14,10 @@ use Rattle.model.specs.Valid.{badCounts}
 use Rattle.model.specs.Field.{badDimension, differs, tooMany}
 use Rattle.model.specs.Operations.{disturb, reduce, tiedSum, independentSum, renumbered}
 use Rattle.model.specs.Run.{Cause, _if_, firstOf}
-use Rattle.model.specs.Library.{Given, ofFirst, ofSecond, badNext, examine, disturbRefusal, reduceRefusal, tiedRefusal}
+use Rattle.model.specs.Library.{Given, ofSecond, badNext, examine, disturbRefusal, reduceRefusal, tiedRefusal}
 use Rattle.model.specs.Library.{independentRefusal}
 use Rattle.zonotope.specs.declared.Examined.{Examined}
-use Rattle.zonotope.specs.declared.Examined.the-variants.{Accepted, Refused}
+use Rattle.zonotope.specs.declared.Examined.the-variants.{Refused}
 use Rattle.zonotope.specs.Answer.{examined, orElse, first-append}
 use Rattle.answers.specs.Answer.{ofResult}
 use Rattle.answers.specs.Order.{orElse-assoc, in-order}

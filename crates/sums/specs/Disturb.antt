@@ -1,21 +1,21 @@
 -- A disturbance of a record: the record of the disturbed set is the record with other radii.
-use mathlib.Core.Path.{_≡_, refl, sym, ap, ap₂, _∙_}
+use mathlib.Core.Path.{_≡_, sym, ap, ap₂, _∙_}
 use mathlib.Core.List.{List}
-use mathlib.Core.Option.{none, some}
-use mathlib.Core.Bool.{Bool, true, false, cond, not}
+use mathlib.Core.Option.{none}
+use mathlib.Core.Bool.{false}
 use Prim.Native.Nat.{ℕ, _+_, _<_, _≤_}
 use native.Mathlib.Nat.{zero-add}
 use native.Mathlib.Decide.{decLt}
 use native.Mathlib.Omega.{arith}
-use borrow.Author.Tests.{ltb-false, eqb-true, not-false}
-use lib.Dec.{ltb, eqb}
+use borrow.Author.Tests.{ltb-false}
+use lib.Dec.{ltb}
 use lib.ListN.{length, getD, List·getD-eq-default}
 use lib.Seq.{ext-getD}
 use Rattle.rational.specs.Sum.{All-imp}
 use Rattle.whole.specs.Tab.{tab, any, length-tab, getD-tab, tab-cong}
 use Rattle.whole.specs.Write.{write, write-length, write-at, write-after}
-use Rattle.model.specs.Limits.{maxSpan, maxDisturbance}
-use Rattle.model.specs.Set.{Zonotope, plusℕ}
+use Rattle.model.specs.Limits.{maxDisturbance}
+use Rattle.model.specs.Set.{Zonotope}
 use Rattle.model.specs.Valid.{badCounts, tooWide}
 use Rattle.model.specs.Field.{badDimension, differs}
 use Rattle.model.specs.Operations.{disturb}
@@ -25,10 +25,10 @@ use Rattle.model.proofs.Vectors.{plusℕ-at, longer-length}
 use Rattle.model.proofs.Shape as Shape
 use Rattle.zonotope.specs.declared.PolyZonotope.{PolyZonotope}
 use Rattle.zonotope.specs.Record.{view, pack, given}
-use Rattle.zonotope.specs.Counts.{Countable, InLimits, countable}
+use Rattle.zonotope.specs.Counts.{InLimits, countable}
 use Rattle.zonotope.specs.Shape.{Sized, Shaped}
 use Rattle.zonotope.specs.Valid.{valid, passed}
-use Rattle.zonotope.specs.Tests.{none-at, any-list}
+use Rattle.whole.specs.Tests.{none-at, any-list}
 use Rattle.zonotope.proofs.ViewPack.{view-pack}
 use Rattle.align.specs.Examined.{radii-wide, radii-small}
 use Rattle.answers.specs.Order.{neither}

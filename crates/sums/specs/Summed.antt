@@ -1,16 +1,16 @@
 -- Two accepted records of one dimension: their sum before finishing, in rows, is a set in wide form.
-use mathlib.Core.Path.{_≡_, refl, sym, ap, subst, _∙_}
+use mathlib.Core.Path.{_≡_, refl, sym, ap, _∙_}
 use mathlib.Core.List.{List}
-use mathlib.Core.Option.{Option, none, some}
+use mathlib.Core.Option.{Option, none}
 use mathlib.Core.Bool.{true, false, not, _||_}
-use Prim.Native.Nat.{ℕ, _*_, _^_, _<_, _≤_}
+use Prim.Native.Nat.{ℕ, _≤_}
 use native.Mathlib.Omega.{arith}
 use borrow.Author.Tests.{ltb-false}
 use lib.Dec.{ltb}
 use lib.ListN.{length, getD, replicate, length-replicate}
 use lib.IntN.{ℤ, pos}
 use Rattle.whole.specs.Tab.{tab, any, length-tab, getD-tab, tab-cong}
-use Rattle.model.specs.Limits.{maxFactors, firstFresh, lastFresh, maxSpan, recordIdentifiers, standardWeights}
+use Rattle.model.specs.Limits.{maxFactors, firstFresh, lastFresh, recordIdentifiers, standardWeights}
 use Rattle.model.specs.Set.{Zonotope, at}
 use Rattle.model.specs.Valid.{badCounts, badRange, badOrder, tooWide}
 use Rattle.model.specs.Finish.{finish}
@@ -27,10 +27,8 @@ use Rattle.zonotope.specs.Record.{view, spare, given}
 use Rattle.zonotope.specs.Counts.{countable}
 use Rattle.zonotope.specs.Shape.{Sized}
 use Rattle.zonotope.specs.Valid.{valid, passed}
-use Rattle.zonotope.specs.Tests.{or-left, or-right}
+use Rattle.whole.specs.Tests.{or-left, or-right}
 use Rattle.zonotope.specs.Answer.{examined, orElse}
-use Rattle.rows.specs.Rows.{Small}
-use Rattle.fold.specs.Folding.{Under}
 use Rattle.align.specs.declared.Identifiers.{Identifiers}
 use Rattle.align.specs.declared.Sum.{Sum}
 use Rattle.align.specs.Sum.{Factors, Common, Space, Joined}

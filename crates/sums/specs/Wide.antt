@@ -1,23 +1,22 @@
 -- An accepted record in rows of fixed width: its rows are its set in wide form, and no number is larger than a span may be.
-use mathlib.Core.Path.{_≡_, refl, sym, ap, ap₂, subst, _∙_}
-use mathlib.Core.List.{List, [], _∷_, map}
-use Prim.Native.Nat.{ℕ, _+_, _*_, _/_, _%_, _^_, _<_, _≤_}
-use native.Mathlib.Nat.{mul-add-div-right, div-eq-of-lt, mul-add-mod-self-right, mod-eq-of-lt}
+use mathlib.Core.Path.{_≡_, refl, sym, ap, subst, _∙_}
+use mathlib.Core.List.{List, [], map}
+use Prim.Native.Nat.{ℕ, _/_, _%_, _^_, _<_, _≤_}
 use native.Mathlib.Decide.{decLt}
 use native.Mathlib.Omega.{arith}
-use lib.ListN.{length, getD, List·getD-eq-default}
+use lib.ListN.{length, getD}
 use lib.IntN.{ℤ, pos, natAbs}
-use Rattle.whole.specs.Tab.{tab, length-tab, getD-tab, getD-tab-past, tab-cong, tab-getD, map-tab}
+use Rattle.whole.specs.Tab.{tab, length-tab, getD-tab, getD-tab-past, tab-cong, tab-getD, map-tab, tab-row}
 use Rattle.model.specs.Limits.{maxSpan, standardWeights}
-use Rattle.model.specs.Set.{Term, Zonotope, at}
+use Rattle.model.specs.Set.{Zonotope, at}
 use Rattle.model.specs.Finish.{finish}
 use Rattle.model.specs.Operations.{reduce}
 use Rattle.zonotope.specs.declared.PolyZonotope.{PolyZonotope}
-use Rattle.zonotope.specs.Record.{row, noTerm, view, pack}
+use Rattle.zonotope.specs.Record.{noTerm, view, pack}
 use Rattle.zonotope.specs.Counts.{Countable, countable}
-use Rattle.rows.specs.Rows.{exponentRow, numberRow, termOf, rowsOf, Small}
+use Rattle.rows.specs.Rows.{termOf, rowsOf, Small}
 use Rattle.fold.specs.Folding.{Under}
-use Rattle.align.specs.Examined.{counts, termRow, generatorRow, terms-held, generators-held, centre-small, radii-small}
+use Rattle.align.specs.Examined.{counts, terms-held, generators-held, centre-small, radii-small}
 use Rattle.finish.specs.declared.Unfinished.{Unfinished}
 use Rattle.finish.specs.declared.Finished.{Finished}
 use Rattle.finish.specs.Held.{held, finishedAs}
@@ -41,14 +40,6 @@ unfinishedOf s = record {
 abbrev pub heldIn : PolyZonotope → Zonotope
 heldIn s = held (unfinishedOf s) (s .exponents) (s .coefficients) (s .terms) (s .vectors) (s .generators)
 
--- row t of a table of rows of w
-row-of : {A : Type 0} (d : A) (w n t : ℕ) (F : ℕ → ℕ → A) → t * w + w ≤ n →
-    tab w (λ i. getD (tab n (λ x. F (x / w) (x % w))) (t * w + i) d) ≡ tab w (F t)
-row-of d w n t F m =
-    tab-cong w _ _ (λ i l. getD-tab n (λ x. F (x / w) (x % w)) d (t * w + i) (omega arith)
-    ∙ ap₂ F (mul-add-div-right {m = w} (omega arith) t i ∙ ap (t +_) (div-eq-of-lt (omega arith)) ∙ omega arith)
-    (mul-add-mod-self-right t w i ∙ mod-eq-of-lt (omega arith)))
-
 -- The rows of the record of a set are the set in wide form.
 record-wide : (m : Zonotope) → Countable m → heldIn (pack m) ≡ wide m
 unfolding pack wide rowsOf
@@ -62,7 +53,7 @@ record-wide m l = λ k. record {
       ∙ sym (map-tab wideTerm (length (m .terms)) (λ t. getD (m .terms) t noTerm))
       ∙ ap (map wideTerm) (tab-getD (length (m .terms)) (m .terms) noTerm refl)) k;
   generators = (tab-cong (length (m .generators)) _ _ (λ t h.
-      row-of (pos 0) 6 144 t (λ q i. at (getD (m .generators) q []) i) (omega (arith, l .generators)))
+      tab-row (pos 0) 6 144 t (λ q i. at (getD (m .generators) q []) i) (omega (arith, l .generators)))
       ∙ sym (map-tab wideVector (length (m .generators)) (λ t. getD (m .generators) t []))
       ∙ ap (map wideVector) (tab-getD (length (m .generators)) (m .generators) [] refl)) k;
   radii = tab 6 (λ i. getD (m .radii) i 0);
@@ -71,8 +62,8 @@ record-wide m l = λ k. record {
     term-wide : (t : ℕ) → t < length (m .terms) → termOf (tab 480 (λ x. getD (getD (m .terms) (x / 12) noTerm .exponents) (x % 12) 0))
         (tab 240 (λ x. at (getD (m .terms) (x / 6) noTerm .coefficients) (x % 6))) t t ≡ wideTerm (getD (m .terms) t noTerm)
     term-wide t h = λ k. record {
-      exponents = row-of 0 12 480 t (λ q i. getD (getD (m .terms) q noTerm .exponents) i 0) (omega (arith, l .terms)) k;
-      coefficients = row-of (pos 0) 6 240 t (λ q i. at (getD (m .terms) q noTerm .coefficients) i) (omega (arith, l .terms)) k;
+      exponents = tab-row 0 12 480 t (λ q i. getD (getD (m .terms) q noTerm .exponents) i 0) (omega (arith, l .terms)) k;
+      coefficients = tab-row (pos 0) 6 240 t (λ q i. at (getD (m .terms) q noTerm .coefficients) i) (omega (arith, l .terms)) k;
     }
 
 -- an entry of a table that is small at each place

@@ -1,6 +1,6 @@
 // Sums of two examined sets: their rows over common factors, finished.
 ghost use mathlib.Core.Path.{_≡_};
-ghost use Prim.Native.Nat.{ℕ, _≤_};
+ghost use Prim.Native.Nat.{_≤_};
 ghost use lib.ListN.{getD};
 ghost use Rattle.whole.specs.Tab.{tab};
 ghost use Rattle.model.specs.Limits.{standardWeights};

@@ -8,10 +8,10 @@
 --     as-ℕ-linear     a product of two unknowns is an unknown itself, so that there are fewer of them
 -- How it works: `read z` is z and marks what is still to be read; the marks move inward, and an unknown becomes the difference of its
 -- parts by the last rule, `read-atom`. This relies on `simp` trying the rules of a set in their order.
-use mathlib.Core.Path.{_≡_, refl, sym, _∙_, ap, subst}
+use mathlib.Core.Path.{_≡_, refl, sym, ap, subst}
 use mathlib.Core.Logic.{_↔_}
 use mathlib.Core.Bool.{Bool, true, false}
-use Prim.Native.Nat.{ℕ, zero, suc, _+_, _*_, _-_, _^_, _<_, _≤_}
+use Prim.Native.Nat.{ℕ, suc, _+_, _*_, _-_, _^_, _<_, _≤_}
 use native.Mathlib.Omega.{arith}
 use lib.Dec.{T}
 use lib.IntN.{ℤ, pos, negsuc, negℤ, natAbs, subℕ, _+ℤ_, _*ℤ_}

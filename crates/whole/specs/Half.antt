@@ -1,7 +1,6 @@
 -- The fold rule of an even term. Where all exponents of a term are even, its product of powers lies in 0..1, so the term lies between 0
 -- and its coefficient g. Folding it (moving it into the independent part) moves the centre by `half g` and widens the radius by
 -- `halfSize g`. Callers use the two laws below.
-use mathlib.Core.Path.{_≡_}
 use Prim.Native.Nat.{ℕ, _+_, _/_, _≤_}
 use native.Mathlib.Omega.{arith}
 use lib.Dec.{lit<}

@@ -9,6 +9,7 @@
 --     a slice that a loop fills, a part that was lent      Write
 --     the rule of a constant table                         Table
 --     the list f 0 .. f (n - 1), tests over lists          Tab
+--     what a loop that stops early knows of a test         Tests
 pub mod Difference
 pub mod AsNaturals
 pub mod Ring
@@ -25,3 +26,4 @@ pub mod Sum
 pub mod Write
 pub mod Table
 pub mod Tab
+pub mod Tests

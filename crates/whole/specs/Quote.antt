@@ -1,7 +1,7 @@
 -- Ring identities of ℤ by the normaliser, for what `as-ℕ` can't do (many unknowns, high degree). With ρ the list of the unknowns:
 --     law a b = let ρ = a ∷ b ∷ [] in simp (quote, con-of ρ, atom ρ 0, atom ρ 1) (by-norm refl)
 -- `con-of ρ` and `con-neg ρ` only where the goal has constants ≥ 0 and < 0.
-use mathlib.Core.Path.{_≡_, refl, sym, _∙_, ap}
+use mathlib.Core.Path.{_≡_, refl}
 use mathlib.Core.Logic.{_↔_}
 use mathlib.Core.List.{List, [], _∷_}
 use Prim.Native.Nat.{ℕ}

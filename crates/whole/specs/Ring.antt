@@ -1,7 +1,7 @@
 -- ℤ is a commutative ring. The laws that the library has stand beside these: +ℤ-assoc, +ℤ-comm, *ℤ-comm, +ℤ-idl, +ℤ-invr .. of `lib.IntN`.
-use mathlib.Core.Path.{_≡_, _∙_}
+use mathlib.Core.Path.{_≡_}
 use native.Mathlib.Omega.{arith}
-use lib.IntN.{ℤ, pos, negℤ, _+ℤ_, _-ℤ_, _*ℤ_, +ℤ-assoc, +ℤ-comm, *ℤ-comm, negℤ-+ℤ, negℤ-negℤ, +ℤ-idl, +ℤ-idr, zero-*ℤ, *ℤ-zero}
+use lib.IntN.{ℤ, pos, negℤ, _+ℤ_, _*ℤ_, +ℤ-assoc, +ℤ-comm, *ℤ-comm, negℤ-+ℤ, negℤ-negℤ, +ℤ-idl, +ℤ-idr, zero-*ℤ, *ℤ-zero}
 use Rattle.whole.specs.AsNaturals.{as-ℕ}
 
 pub *ℤ-assoc : (a b c : ℤ) → (a *ℤ b) *ℤ c ≡ a *ℤ (b *ℤ c)

@@ -1,7 +1,7 @@
 -- The rounding rule of a step. All numbers of a set are whole multiples of 1/4096 of the user's unit (document 01: grains). A step's raw
 -- numbers are in 1/16,777,216 of that; each is rounded to a whole number. Callers use `round` and `inexact` by the laws below, never by
 -- what stands behind them.
-use mathlib.Core.Path.{_≡_, refl, sym, _∙_, ap}
+use mathlib.Core.Path.{_≡_, sym, _∙_, ap}
 use mathlib.Core.Bool.{Bool, true, false, cond}
 use Prim.Native.Nat.{ℕ, suc, _+_, _*_, _/_, _%_, _≤_}
 use native.Mathlib.Nat.{div-add-mod}

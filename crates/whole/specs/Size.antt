@@ -1,13 +1,11 @@
 -- The size |a| of a whole number, `natAbs a`, and bounds on it.
-use mathlib.Core.Path.{_≡_, refl, sym, _∙_, ap}
+use mathlib.Core.Path.{_≡_, refl}
 use mathlib.Core.Logic.{_↔_}
-use mathlib.Core.Bool.{true, false}
 use Prim.Native.Nat.{ℕ, suc, _+_, _*_, _≤_}
 use native.Mathlib.Nat.{mul-le-mul, le-refl, le-trans}
 use native.Mathlib.Omega.{arith}
-use lib.Dec.{T}
 use lib.IntN.{ℤ, pos, negsuc, negℤ, natAbs, _+ℤ_, _-ℤ_, _*ℤ_}
-use lib.Signed.{_≤ℤ_, _<ℤ_, ltZ, nonNeg}
+use lib.Signed.{_≤ℤ_}
 use Rattle.whole.specs.AsNaturals.{as-ℕ, as-ℕ-sizes}
 
 pub abs-neg : (a : ℤ) → natAbs (negℤ a) ≡ natAbs a

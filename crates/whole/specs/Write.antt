@@ -3,11 +3,12 @@ use mathlib.Core.List.{List, [], _∷_, _++_}
 use mathlib.Core.Path.{_≡_, refl, sym, ap, ap₂, _∙_}
 use Prim.Native.Nat.{ℕ, zero, suc, _+_, _-_, _<_, _≤_}
 use native.Mathlib.Decide.{decLt}
-use native.Mathlib.Nat.{zero-add, suc-add}
+use native.Mathlib.Nat.{zero-add, suc-add, le-of-suc-le-suc}
 use native.Mathlib.Numerals.{add-one}
 use native.Mathlib.Omega.{arith}
 use lib.ListN.{length, getD, set, take, drop, length-set, length-drop, take-append-drop}
-use lib.Seq.{set-append-left, length-take-le, getD-set-same, getD-set-other}
+use lib.Seq.{ext-getD, set-append-left, length-take-le, getD-set-same, getD-set-other}
+use Rattle.whole.specs.Tab.{tab, length-tab, getD-tab}
 
 -- places at, at + 1 .. hold f 0, f 1 .. f (n - 1), and the others what they held
 unfoldable pub write : {X : Type 0} → List X → ℕ → (ℕ → X) → ℕ → List X
@@ -56,6 +57,26 @@ module _ {X : Type 0} (ws : List X) (at : ℕ) where
   unfolding write
   write-after f d zero k h = refl
   write-after f d (suc n) k h = getD-set-other (write ws at f n) (at + n) k (f n) d (λ q. omega arith) ∙ write-after f d n k (omega arith)
+
+-- a list written from end to end is a table
+pub write-all : {X : Type 0} (ws : List X) (f : ℕ → X) (d : X) (n : ℕ) → length ws ≡ n → write ws 0 f n ≡ tab n f
+write-all ws f d n e =
+    ext-getD d (write ws 0 f n) (tab n f) (write-length ws 0 f n ∙ e ∙ sym (length-tab n f))
+    (λ i h.
+    let l : i < n = omega (arith, write-length ws 0 f n) in
+    ap (λ x. getD (write ws 0 f n) x d) (sym (zero-add i)) ∙ write-at ws 0 f d n i l (omega arith) ∙ sym (getD-tab n f d i l))
+
+-- ---- a part of a list that was lent: what is read of it
+pub getD-take : {A : Type 0} (n : ℕ) (xs : List A) (k : ℕ) (d : A) → k < n → getD (take n xs) k d ≡ getD xs k d
+getD-take zero xs k d h = absurd (omega arith)
+getD-take (suc n) [] k d h = refl
+getD-take (suc n) (x ∷ xs) zero d h = refl
+getD-take (suc n) (x ∷ xs) (suc k) d h = getD-take n xs k d (le-of-suc-le-suc h)
+
+pub getD-drop : {A : Type 0} (n : ℕ) (xs : List A) (k : ℕ) (d : A) → getD (drop n xs) k d ≡ getD xs (n + k) d
+getD-drop zero xs k d = ap (λ (i : ℕ). getD xs i d) (sym (zero-add k))
+getD-drop (suc n) [] k d = refl
+getD-drop (suc n) (x ∷ xs) k d = getD-drop n xs k d ∙ ap (λ (i : ℕ). getD (x ∷ xs) i d) (sym (suc-add n k))
 
 -- ---- a part of a list that was lent: what is written in the part that starts at a is written in the list
 set-append-right : {X : Type 0} (xs ys : List X) (i : ℕ) (a : X) → set (xs ++ ys) (length xs + i) a ≡ xs ++ set ys i a

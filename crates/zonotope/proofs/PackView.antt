@@ -16,7 +16,7 @@ use Rattle.model.specs.Set.{Term}
 use Rattle.model.specs.Valid.{isZero}
 use Rattle.zonotope.specs.declared.PolyZonotope.{PolyZonotope}
 use Rattle.zonotope.specs.Record.{row, view, pack, noTerm, inRows, spareℕ, spareℤ, spare}
-use Rattle.zonotope.specs.Tests.{or-left, or-right, none-at}
+use Rattle.whole.specs.Tests.{or-left, or-right, none-at}
 use Rattle.zonotope.specs.Shape.{Sized}
 
 -- ---- what no spare place says: an entry that isn't used is 0

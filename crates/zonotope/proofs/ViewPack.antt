@@ -16,7 +16,7 @@ use Rattle.model.specs.Set.{Term, Zonotope, at}
 use Rattle.model.specs.Valid.{badCounts, isZero}
 use Rattle.zonotope.specs.declared.PolyZonotope.{PolyZonotope}
 use Rattle.zonotope.specs.Record.{row, view, pack, noTerm, inRows, spare}
-use Rattle.zonotope.specs.Tests.{any-none}
+use Rattle.whole.specs.Tests.{any-none}
 use Rattle.zonotope.specs.Counts.{countable}
 use Rattle.zonotope.specs.Shape.{Shaped}
 

@@ -12,7 +12,7 @@ use Rattle.model.specs.Set.{Zonotope}
 use Rattle.model.specs.Valid.{badCounts}
 use Rattle.zonotope.specs.declared.PolyZonotope.{PolyZonotope}
 use Rattle.zonotope.specs.Record.{view}
-use Rattle.zonotope.specs.Tests.{or-left, or-right}
+use Rattle.whole.specs.Tests.{or-left, or-right}
 
 -- n coordinates, p factors, h terms and q generators
 pub record Counts (n p h q : ℕ) : Type 0 where

@@ -8,7 +8,7 @@ use Rattle.model.specs.Limits.{recordIdentifiers}
 use Rattle.model.specs.Valid.{badCounts, badRange, badOrder, tooWide}
 use Rattle.model.specs.Run.{firstOf}
 use Rattle.model.specs.Library.{Given, examine}
-use Rattle.zonotope.specs.Tests.{or-left, or-right}
+use Rattle.whole.specs.Tests.{or-left, or-right}
 
 -- none of the causes 4, 6, 7 and 8 holds
 pub record Valid (g : Given) : Type 0 where

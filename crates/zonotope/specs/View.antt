@@ -16,7 +16,7 @@ use Rattle.zonotope.specs.declared.PolyZonotope.{PolyZonotope}
 use Rattle.zonotope.specs.Record.{row, view, inRows, spareℕ, spareℤ, spare}
 use Rattle.zonotope.specs.Shape.{Sized}
 use Rattle.zonotope.specs.Rows.{columnSizes, identifierOut, exponentOut, sum-tab}
-use Rattle.zonotope.specs.Tests.{some-below, each-below, any-places, any-cong, all-cong, any-or}
+use Rattle.whole.specs.Tests.{some-below, each-below, any-places, any-cong, all-cong, any-or}
 use Rattle.zonotope.specs.Ascent.{rises-of}
 
 -- a number of a row's used part

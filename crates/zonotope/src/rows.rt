@@ -7,7 +7,7 @@ ghost use lib.ListN.{length, getD};
 ghost use Rattle.whole.specs.Tab.{tab, any};
 ghost use Rattle.model.specs.Valid.{order, isLess, rises, isZero, zeros, constant};
 ghost use Rattle.zonotope.specs.Record.{row};
-ghost use Rattle.zonotope.specs.Tests.{some-below, each-below};
+ghost use Rattle.whole.specs.Tests.{some-below, each-below};
 ghost use Rattle.zonotope.specs.Rows.{columnSizes, identifierOut, exponentOut};
 use crate::MAX_EXPONENT;
 use crate::MAX_IDENTIFIER;

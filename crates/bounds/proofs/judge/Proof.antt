@@ -13,7 +13,7 @@ use Rattle.model.specs.Field.{beyond}
 use Rattle.model.specs.Limits.{maxEntry, maxBound}
 use Rattle.model.specs.Operations.{safe}
 use Rattle.whole.specs.Tab.{any}
-use Rattle.zonotope.specs.Tests.{or-left}
+use Rattle.whole.specs.Tests.{or-left}
 use Rattle.bounds.specs.Answer.{halfspaces, ofRegion, judged}
 use Rattle.bounds.specs.Region.{entries-within, few, same-lengths}
 use Rattle.bounds.proofs.judge.Statement.{statement}

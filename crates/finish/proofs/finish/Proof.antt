@@ -1,7 +1,7 @@
 -- `finish::finish` meets its contract, by the set that is left in rows.
 use borrow.Author.Needs.{needs}
-use mathlib.Core.Path.{_≡_, sym, ap, _∙_}
-use mathlib.Core.Bool.{true, false}
+use mathlib.Core.Path.{sym, ap, _∙_}
+use mathlib.Core.Bool.{false}
 use Rattle.zonotope.specs.declared.PolyZonotope.{PolyZonotope}
 use Rattle.finish.specs.Answer.{dimension-few, packable, refused, accepted}
 use Rattle.finish.proofs.finish.Statement.{statement}

@@ -1,7 +1,6 @@
 -- `finish::fold_rest` meets its contract, by what its three folds leave.
 use borrow.Author.Needs.{needs}
 use native.Mathlib.Omega.{arith}
-use mathlib.Core.Path.{_≡_}
 use Rattle.fold.specs.Folding.{small-mono, under-mono}
 use Rattle.finish.specs.Reduce.{centre-after, radii-after, rest-holds}
 use Rattle.finish.proofs.fold_rest.Statement.{statement}

@@ -1,10 +1,8 @@
 -- `finish::gather` meets its contract: what is collected loses its zero terms.
 use borrow.Author.Needs.{needs}
 use native.Mathlib.Omega.{arith}
-use mathlib.Core.Path.{_≡_, ap, _∙_}
+use mathlib.Core.Path.{ap, _∙_}
 use Rattle.model.specs.Finish.{those}
-use Rattle.select.specs.Stage.{Ready}
-use Rattle.finish.specs.Reduce.{Gathered}
 use Rattle.finish.proofs.gather.Statement.{statement}
 use Rattle.finish.proofs.gather.Tie as tie
 

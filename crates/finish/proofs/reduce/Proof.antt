@@ -1,10 +1,7 @@
 -- `finish::reduce` meets its contract, by its parts.
 use borrow.Author.Needs.{needs}
 use native.Mathlib.Omega.{arith}
-use mathlib.Core.Path.{_≡_}
 use Rattle.fold.specs.Folding.{coreOf, small-mono}
-use Rattle.rows.specs.Rows.{rowsOf, numberRow}
-use Rattle.whole.specs.Tab.{tab}
 use Rattle.finish.specs.Reduce.{reduced-from, holds-as}
 use Rattle.finish.proofs.reduce.Statement.{statement}
 use Rattle.finish.proofs.reduce.Tie as tie

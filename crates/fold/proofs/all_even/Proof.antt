@@ -8,7 +8,7 @@ use lib.ListN.{getD}
 use borrow.Author.Count.{below-none, below-more}
 use borrow.Author.Tests.{not-true, not-false}
 use Rattle.rational.specs.Power.{even}
-use Rattle.fold.specs.Row.{all-tab-fails, all-tab-passes}
+use Rattle.whole.specs.Tests.{all-failed, all-passed}
 use Rattle.fold.proofs.all_even.Statement.{statement}
 use Rattle.fold.proofs.all_even.Tie as tie
 
@@ -38,7 +38,7 @@ returns c =
     let at = c .before .before .before .before in
     let g = at .before .before .args in
     sym
-    (all-tab-fails even 12 (λ i. getD (g .e .now) (g .x * 12 + i) 0) (at .loop .k) (omega arith)
+    (all-failed even 12 (λ i. getD (g .e .now) (g .x * 12 + i) 0) (at .loop .k) (omega arith)
     (sym (c .before .is-even .ensures) ∙ not-true _ (c .if1 .taken)))
 
 add-k : tie.Need-add-k Inv-loop μ-loop
@@ -56,7 +56,7 @@ returns-2 : tie.Need-returns-2 Inv-loop μ-loop
 returns-2 c =
     let at = c .before in
     let g = at .before .before .args in
-    sym (all-tab-passes even 12 (λ i. getD (g .e .now) (g .x * 12 + i) 0) (λ i h. at .loop .inv .1 i (omega arith)))
+    sym (all-passed even 12 (λ i. getD (g .e .now) (g .x * 12 + i) 0) (λ i h. at .loop .inv .1 i (omega arith)))
 
 pub all-even-spec : {M : Type 1} → statement M
 all-even-spec =

@@ -9,7 +9,7 @@ use lib.ListN.{getD}
 use borrow.Author.Count.{below-none, below-more}
 use borrow.Author.Tests.{lt-ltb, le-ltb}
 use Rattle.model.specs.Limits.{maxExponent}
-use Rattle.fold.specs.Row.{any-tab-some, any-tab-none}
+use Rattle.whole.specs.Tests.{any-found, any-none}
 use Rattle.fold.proofs.is_high.Statement.{statement}
 use Rattle.fold.proofs.is_high.Tie as tie
 
@@ -36,7 +36,7 @@ returns c =
     let at = c .before .before .before in
     let g = at .before .args in
     sym
-    (any-tab-some (λ n. ltb maxExponent n) 12 (λ i. getD (g .e .now) (g .x * 12 + i) 0) (at .loop .k) (omega arith)
+    (any-found (λ n. ltb maxExponent n) 12 (λ i. getD (g .e .now) (g .x * 12 + i) 0) (at .loop .k) (omega arith)
     (lt-ltb _ _ (c .if1 .taken)))
 
 add-k : tie.Need-add-k Inv-loop μ-loop
@@ -55,7 +55,7 @@ returns-2 c =
     let at = c .before in
     let g = at .before .args in
     sym
-    (any-tab-none (λ n. ltb maxExponent n) 12 (λ i. getD (g .e .now) (g .x * 12 + i) 0) (λ i h. at .loop .inv .1 i (omega arith)))
+    (any-none (λ n. ltb maxExponent n) 12 (λ i. getD (g .e .now) (g .x * 12 + i) 0) (λ i h. at .loop .inv .1 i (omega arith)))
 
 pub is-high-spec : {M : Type 1} → statement M
 is-high-spec =

@@ -7,7 +7,7 @@ use Prim.Native.Nat.{ℕ, _-_, _≤_, _<_}
 use borrow.Author.Count.{below-more}
 use borrow.Author.Tests.{lt-ltb, le-ltb}
 use lib.Dec.{ltb}
-use Rattle.zonotope.specs.Tests.{any-found, any-none}
+use Rattle.whole.specs.Tests.{any-found, any-none}
 use Rattle.model.specs.Set.{span}
 use Rattle.model.specs.Valid.{tooWide}
 use Rattle.zonotope.specs.Record.{view}

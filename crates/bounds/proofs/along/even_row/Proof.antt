@@ -8,7 +8,7 @@ use borrow.Author.Count.{below-more}
 use borrow.Author.Tests.{eq-eqb, ne-eqb}
 use lib.ListN.{getD}
 use Rattle.rational.specs.Power.{even}
-use Rattle.zonotope.specs.Tests.{all-failed, all-passed}
+use Rattle.whole.specs.Tests.{all-failed, all-passed}
 use Rattle.bounds.proofs.along.even_row.Statement.{statement}
 use Rattle.bounds.proofs.along.even_row.Tie as tie
 

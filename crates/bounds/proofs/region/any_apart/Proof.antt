@@ -12,7 +12,7 @@ use Rattle.whole.specs.Fits.{read64}
 use Rattle.model.specs.Set.{at}
 use Rattle.model.specs.Operations.{lowAlong}
 use Rattle.zonotope.specs.Record.{view}
-use Rattle.zonotope.specs.Tests.{any-found, any-none}
+use Rattle.whole.specs.Tests.{any-found, any-none}
 use lib.Signed.{ltZ}
 use Rattle.whole.specs.Tab.{tab, length-tab}
 use Rattle.model.specs.Operations.{safe}

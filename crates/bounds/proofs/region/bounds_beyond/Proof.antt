@@ -11,9 +11,9 @@ use lib.ListN.{length, getD}
 use lib.IntN.{pos, natAbs}
 use Rattle.whole.specs.Fits.{read64}
 use Rattle.model.specs.Set.{at}
-use Rattle.zonotope.specs.Tests.{any-found, any-none}
+use Rattle.whole.specs.Tests.{any-found, any-none}
 use Rattle.model.specs.Field.{beyond}
-use Rattle.zonotope.specs.Tests.{any-list}
+use Rattle.whole.specs.Tests.{any-list}
 use Rattle.bounds.proofs.region.bounds_beyond.Statement.{statement}
 use Rattle.bounds.proofs.region.bounds_beyond.Tie as tie
 

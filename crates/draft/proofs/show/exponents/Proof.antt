@@ -1,6 +1,5 @@
 -- `show::exponents` meets its contract.
 use borrow.Author.Needs.{needs}
-use native.Mathlib.Omega.{arith}
 use Prim.Native.Nat.{_-_, _≤_}
 use Rattle.draft.proofs.show.exponents.Statement.{statement}
 use Rattle.draft.proofs.show.exponents.Tie as tie

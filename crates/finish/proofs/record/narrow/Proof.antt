@@ -1,8 +1,5 @@
 -- `finish::record::narrow` meets its contract: the number fits 32 bits.
 use native.Mathlib.Omega.{arith}
-use mathlib.Core.Path.{_∙_}
-use mir.Syntax.{w32}
-use mir.Val.{SFits}
 use mir.Facts.{toZ-ofZ}
 use Rattle.whole.specs.Fits.{fits-abs}
 use Rattle.finish.proofs.record.narrow.Statement.{statement}

@@ -7,7 +7,7 @@ use lib.IntN.{pos}
 use Rattle.model.specs.Set.{at}
 use Rattle.fold.specs.Marks.{same-at}
 use Rattle.fold.specs.Row.{written-all}
-use Rattle.finish.specs.Numbers.{Narrowed, numbers-array}
+use Rattle.finish.specs.Numbers.{numbers-array}
 use Rattle.finish.proofs.record.narrow_all.Statement.{statement}
 use Rattle.finish.proofs.record.narrow_all.Tie as tie
 

@@ -3,7 +3,7 @@ use borrow.Author.Needs.{needs}
 use native.Mathlib.Omega.{arith}
 use mathlib.Core.Path.{_≡_, refl, sym, ap, _∙_}
 use Prim.Native.Nat.{ℕ, _+_, _-_, _≤_}
-use lib.ListN.{length, getD, set}
+use lib.ListN.{getD, set}
 use Rattle.whole.specs.Write.{write, write-none, write-again}
 use Rattle.fold.specs.Row.{written-all}
 use Rattle.finish.proofs.record.narrow_radii.Statement.{statement}

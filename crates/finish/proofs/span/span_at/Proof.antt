@@ -4,7 +4,7 @@ use native.Mathlib.Omega.{arith}
 use mathlib.Core.Path.{_≡_, ap, ap₂, _∙_}
 use Prim.Native.Nat.{_+_, _^_, _<_}
 use lib.ListN.{getD}
-use lib.IntN.{ℤ, pos, natAbs}
+use lib.IntN.{pos, natAbs}
 use Rattle.whole.specs.Fits.{read64}
 use Rattle.finish.specs.Spans.{span-fits}
 use Rattle.finish.proofs.span.span_at.Statement.{statement}

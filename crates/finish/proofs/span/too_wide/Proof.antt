@@ -2,7 +2,7 @@
 use borrow.Author.Count.{below-none, below-more}
 use borrow.Author.Needs.{needs}
 use native.Mathlib.Omega.{arith}
-use mathlib.Core.Path.{_≡_, sym}
+use mathlib.Core.Path.{sym}
 use Prim.Native.Nat.{ℕ, _-_, _≤_, _<_}
 use Rattle.model.specs.Limits.{maxSpan}
 use Rattle.finish.specs.Spans.{heldSpan, too-wide, not-too-wide}

@@ -1,5 +1,4 @@
 -- `refusals::before_stepping` meets its contract.
-use native.Mathlib.Omega.{arith}
 use borrow.Author.Needs.{needs}
 use Rattle.zonotope.specs.Answer.{refused}
 use Rattle.step.proofs.refusals.before_stepping.Statement.{statement}

@@ -6,7 +6,6 @@ use Rattle.zonotope.specs.Record.{view, given}
 use Rattle.image.specs.StepAccepted.{stepOf}
 use Rattle.answers.specs.Answer.{accepting, refused-first, asked-next}
 use Rattle.step.specs.Order.{ofArguments}
-use native.Mathlib.Omega.{arith}
 use borrow.Author.Needs.{needs}
 use Rattle.step.proofs.refusals.of_set_and_step.Statement.{statement}
 use Rattle.step.proofs.refusals.of_set_and_step.Tie as tie

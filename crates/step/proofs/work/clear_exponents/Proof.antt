@@ -3,7 +3,6 @@ use borrow.Author.Needs.{needs}
 use native.Mathlib.Omega.{arith}
 use mathlib.Core.Path.{refl}
 use Prim.Native.Nat.{_-_}
-use lib.IntN.{pos}
 use Rattle.forms.specs.Filling.{Writing, writing-begins, first-again}
 use Rattle.step.specs.Answer.{workExponents}
 use Rattle.step.specs.Cleared.{clearing-ends}

@@ -7,8 +7,8 @@ use lib.ListN.{length, getD, length-set}
 use lib.IntN.{pos}
 use Rattle.whole.specs.Fits.{got64, read32}
 use Rattle.whole.specs.Tab.{tab-getD}
-use Rattle.whole.specs.Write.{write, write-none}
-use Rattle.align.specs.Runs.{write-next, write-all}
+use Rattle.whole.specs.Write.{write, write-none, write-all}
+use Rattle.align.specs.Runs.{write-next}
 use Rattle.sums.proofs.reduction.widen_numbers.Statement.{statement}
 use Rattle.sums.proofs.reduction.widen_numbers.Tie as tie
 

@@ -9,7 +9,7 @@ use borrow.Author.Tests.{lt-ltb, le-ltb}
 use lib.Dec.{ltb}
 use lib.ListN.{length, getD}
 use Rattle.model.specs.Limits.{maxDisturbance}
-use Rattle.zonotope.specs.Tests.{any-found, any-none, any-list}
+use Rattle.whole.specs.Tests.{any-found, any-none, any-list}
 use Rattle.sums.proofs.refusals.radii_out.Statement.{statement}
 use Rattle.sums.proofs.refusals.radii_out.Tie as tie
 

@@ -8,7 +8,7 @@ use borrow.Author.Count.{below-more}
 use borrow.Author.Tests.{lt-ltb, le-ltb}
 use lib.Dec.{ltb}
 use lib.ListN.{getD}
-use Rattle.zonotope.specs.Tests.{any-found, any-none}
+use Rattle.whole.specs.Tests.{any-found, any-none}
 use Rattle.sums.proofs.refusals.reaches.Statement.{statement}
 use Rattle.sums.proofs.refusals.reaches.Tie as tie
 

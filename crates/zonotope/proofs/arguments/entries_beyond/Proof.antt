@@ -12,7 +12,7 @@ use lib.IntN.{pos, natAbs}
 use Rattle.whole.specs.Fits.{read32}
 use Rattle.model.specs.Set.{at}
 use Rattle.model.specs.Field.{beyond}
-use Rattle.zonotope.specs.Tests.{any-found, any-none, any-list}
+use Rattle.whole.specs.Tests.{any-found, any-none, any-list}
 use Rattle.zonotope.proofs.arguments.entries_beyond.Statement.{statement}
 use Rattle.zonotope.proofs.arguments.entries_beyond.Tie as tie
 

@@ -7,7 +7,7 @@ use Prim.Native.Nat.{ℕ, _+_, _-_, _*_, _≤_, _<_}
 use borrow.Author.Count.{below-more}
 use lib.Dec.{eqb}
 use lib.ListN.{getD}
-use Rattle.zonotope.specs.Tests.{all-failed, all-passed, above-zero, not-above-zero}
+use Rattle.whole.specs.Tests.{all-failed, all-passed, above-zero, not-above-zero}
 -- `rows::constant_row` meets its contract: every exponent passed is 0.
 use native.Mathlib.Omega.{arith}
 use mathlib.Core.Path.{_≡_, sym}
@@ -16,7 +16,7 @@ use Prim.Native.Nat.{ℕ, _+_, _-_, _*_, _≤_, _<_}
 use borrow.Author.Count.{below-more}
 use lib.Dec.{eqb}
 use lib.ListN.{getD}
-use Rattle.zonotope.specs.Tests.{all-failed, all-passed}
+use Rattle.whole.specs.Tests.{all-failed, all-passed}
 use Rattle.zonotope.proofs.rows.constant_row.Statement.{statement}
 use Rattle.zonotope.proofs.rows.constant_row.Tie as tie
 

@@ -7,7 +7,7 @@ use Prim.Native.Nat.{ℕ, _-_, _≤_, _<_}
 use borrow.Author.Count.{below-more}
 use Rattle.model.specs.Valid.{constant}
 use Rattle.zonotope.specs.Record.{row}
-use Rattle.zonotope.specs.Tests.{any-found, any-none}
+use Rattle.whole.specs.Tests.{any-found, any-none}
 use Rattle.zonotope.proofs.rows.constant_rows.Statement.{statement}
 use Rattle.zonotope.proofs.rows.constant_rows.Tie as tie
 

@@ -7,7 +7,7 @@ use Prim.Native.Nat.{ℕ, _-_, _≤_, _<_}
 use borrow.Author.Count.{below-more}
 use Rattle.zonotope.specs.Record.{row}
 use Rattle.zonotope.specs.Rows.{exponentOut}
-use Rattle.zonotope.specs.Tests.{any-found, any-none}
+use Rattle.whole.specs.Tests.{any-found, any-none}
 use Rattle.whole.specs.Tab.{any}
 use Rattle.zonotope.proofs.rows.exponents_out.Statement.{statement}
 use Rattle.zonotope.proofs.rows.exponents_out.Tie as tie

@@ -8,7 +8,7 @@ use borrow.Author.Count.{below-more}
 use borrow.Author.Tests.{lt-ltb, le-ltb}
 use lib.Dec.{ltb}
 use lib.ListN.{getD}
-use Rattle.zonotope.specs.Tests.{any-found, any-none}
+use Rattle.whole.specs.Tests.{any-found, any-none}
 use Rattle.zonotope.proofs.rows.factor_occurs.Statement.{statement}
 use Rattle.zonotope.proofs.rows.factor_occurs.Tie as tie
 

@@ -8,7 +8,7 @@ use borrow.Author.Count.{below-more}
 use borrow.Author.Tests.{not-true, not-false}
 use lib.Dec.{ltb}
 use lib.ListN.{getD}
-use Rattle.zonotope.specs.Tests.{all-failed, all-passed, some-below}
+use Rattle.whole.specs.Tests.{all-failed, all-passed, some-below}
 use Rattle.zonotope.proofs.rows.factors_occur.Statement.{statement}
 use Rattle.zonotope.proofs.rows.factors_occur.Tie as tie
 

@@ -7,7 +7,7 @@ use Prim.Native.Nat.{ℕ, _-_, _≤_, _<_}
 use borrow.Author.Count.{below-more}
 use lib.ListN.{getD}
 use Rattle.zonotope.specs.Rows.{identifierOut}
-use Rattle.zonotope.specs.Tests.{any-found, any-none}
+use Rattle.whole.specs.Tests.{any-found, any-none}
 use Rattle.zonotope.proofs.rows.identifiers_out.Statement.{statement}
 use Rattle.zonotope.proofs.rows.identifiers_out.Tie as tie
 

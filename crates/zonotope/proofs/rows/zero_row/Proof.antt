@@ -10,7 +10,7 @@ use lib.ListN.{getD}
 use lib.IntN.{pos}
 use Rattle.whole.specs.Fits.{read32}
 use Rattle.model.specs.Valid.{isZero}
-use Rattle.zonotope.specs.Tests.{all-failed, all-passed}
+use Rattle.whole.specs.Tests.{all-failed, all-passed}
 -- `rows::zero_row` meets its contract: every number passed is 0.
 use native.Mathlib.Omega.{arith}
 use mathlib.Core.Path.{_≡_, sym, ap, _∙_}
@@ -22,7 +22,7 @@ use lib.ListN.{getD}
 use lib.IntN.{pos}
 use Rattle.whole.specs.Fits.{read32}
 use Rattle.model.specs.Valid.{isZero}
-use Rattle.zonotope.specs.Tests.{all-failed, all-passed}
+use Rattle.whole.specs.Tests.{all-failed, all-passed}
 use Rattle.zonotope.proofs.rows.zero_row.Statement.{statement}
 use Rattle.zonotope.proofs.rows.zero_row.Tie as tie
 

@@ -8,7 +8,7 @@ use borrow.Author.Count.{below-more}
 use lib.IntN.{pos}
 use Rattle.model.specs.Valid.{zeros}
 use Rattle.zonotope.specs.Record.{row}
-use Rattle.zonotope.specs.Tests.{any-found, any-none}
+use Rattle.whole.specs.Tests.{any-found, any-none}
 use Rattle.zonotope.proofs.rows.zero_rows.Statement.{statement}
 use Rattle.zonotope.proofs.rows.zero_rows.Tie as tie
 

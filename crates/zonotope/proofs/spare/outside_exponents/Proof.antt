@@ -8,7 +8,7 @@ use borrow.Author.Count.{below-more}
 use lib.Dec.{eqb}
 use lib.ListN.{length, getD}
 use Rattle.zonotope.specs.Record.{inRows}
-use Rattle.zonotope.specs.Tests.{any-found, any-none}
+use Rattle.whole.specs.Tests.{any-found, any-none}
 use Rattle.zonotope.proofs.spare.outside_exponents.Statement.{statement}
 use Rattle.zonotope.proofs.spare.outside_exponents.Tie as tie
 

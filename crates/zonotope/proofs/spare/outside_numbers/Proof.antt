@@ -10,7 +10,7 @@ use lib.ListN.{length, getD}
 use lib.IntN.{pos, natAbs}
 use Rattle.whole.specs.Fits.{read32}
 use Rattle.zonotope.specs.Record.{inRows}
-use Rattle.zonotope.specs.Tests.{any-found, any-none}
+use Rattle.whole.specs.Tests.{any-found, any-none}
 use Rattle.zonotope.proofs.spare.outside_numbers.Statement.{statement}
 use Rattle.zonotope.proofs.spare.outside_numbers.Tie as tie
 
