@@ -1,34 +1,26 @@
--- Two accepted records of one dimension: their sum before finishing, in rows, is a set in wide form.
+-- The sum of two accepted records, in rows: before finishing it is a set in wide form.
 use mathlib.Core.Path.{_≡_, refl, sym, ap, _∙_}
 use mathlib.Core.List.{List}
-use mathlib.Core.Option.{Option, none}
-use mathlib.Core.Bool.{true, false, not, _||_}
+use mathlib.Core.Bool.{false}
 use Prim.Native.Nat.{ℕ, _≤_}
 use native.Mathlib.Omega.{arith}
 use borrow.Author.Tests.{ltb-false}
 use lib.Dec.{ltb}
 use lib.ListN.{length, getD, replicate, length-replicate}
 use lib.IntN.{ℤ, pos}
-use Rattle.whole.specs.Tab.{tab, any, length-tab, getD-tab, tab-cong}
-use Rattle.model.specs.Limits.{maxFactors, firstFresh, lastFresh, recordIdentifiers, standardWeights}
+use Rattle.whole.specs.Tab.{tab, length-tab, getD-tab, tab-cong}
+use Rattle.model.specs.Limits.{maxFactors, standardWeights}
 use Rattle.model.specs.Set.{Zonotope, at}
-use Rattle.model.specs.Valid.{badCounts, badRange, badOrder, tooWide}
 use Rattle.model.specs.Finish.{finish}
 use Rattle.model.specs.Operations.{joined, renumbered, tiedSum}
-use Rattle.model.specs.Field.{differs, tooMany}
-use Rattle.model.specs.Run.{firstOf}
-use Rattle.model.specs.Library.{ofSecond, badNext, examine}
+use Rattle.model.specs.Field.{tooMany}
 use Rattle.model.proofs.Shape.{Shaped}
 use Rattle.model.proofs.SumShape.{joined-ready, renumbered-ready, renumbered-dimension}
 use Rattle.zonotope.specs.declared.PolyZonotope.{PolyZonotope}
 use Rattle.zonotope.specs.declared.Examined.the-variants as Accept
-use Rattle.zonotope.specs.declared.Examined.the-variants.{Refused}
-use Rattle.zonotope.specs.Record.{view, spare, given}
+use Rattle.zonotope.specs.Record.{view}
 use Rattle.zonotope.specs.Counts.{countable}
-use Rattle.zonotope.specs.Shape.{Sized}
-use Rattle.zonotope.specs.Valid.{valid, passed}
-use Rattle.whole.specs.Tests.{or-left, or-right}
-use Rattle.zonotope.specs.Answer.{examined, orElse}
+use Rattle.zonotope.specs.Valid.{passed}
 use Rattle.align.specs.declared.Identifiers.{Identifiers}
 use Rattle.align.specs.declared.Sum.{Sum}
 use Rattle.align.specs.Sum.{Factors, Common, Space, Joined}
@@ -37,23 +29,10 @@ use Rattle.finish.specs.declared.Finished.{Finished}
 use Rattle.finish.specs.Held.{held, finishedAs}
 use Rattle.finish.specs.Wide.{wide}
 use Rattle.finish.specs.WideFinish.{Narrow}
-use Rattle.answers.specs.declared.Changed.{Changed}
-use Rattle.answers.specs.Answer.{answered}
-use Rattle.sums.specs.Causes.{beforeSumming, ofFactors, ofNext}
-use Rattle.answers.specs.Order.{neither}
-use Rattle.answers.specs.Accepted.{Accepted, equal, ready}
+use Rattle.answers.specs.Accepted.{Accepted, ready}
 use Rattle.answers.specs.Finishing.{Finishable, finished-held, zeros-small}
+use Rattle.sums.specs.Summable.{Summable}
 use Rattle.sums.specs.Wide.{small-in, small-mono, under-in}
-
--- two accepted records of one dimension
-pub record Summable (a b : PolyZonotope) : Type 0 where
-  pub first : Accepted a
-  pub second : Accepted b
-  pub same : b .dimension ≡ a .dimension
-
--- a next identifier that leaves room for twelve
-pub record Next (next : ℕ) : Type 0 where
-  pub few : next ≤ lastFresh
 
 -- the sum without its terms and generators, in n coordinates
 abbrev pub unfinishedSum : ℕ → Identifiers → Sum → Unfinished
@@ -119,32 +98,6 @@ module _ (m : Zonotope) (all : Identifiers) (s : Sum) {e₀ e : List ℕ} {c₀ 
           widened = record { source = m; is = sum-wide; narrow = sum-narrow };
         }
 
--- ---- two records that no cause refuses
-pub summable : (a b : PolyZonotope) → Sized a × Sized b → beforeSumming (given a) (given b) ≡ none → Summable a b
-unfolding firstOf view
-summable a b z e =
-    let g = given b in
-    let first = neither (examine (given a)) (firstOf (ofSecond (given a) (given b))) e in
-    let c = passed (badCounts (view b)) 4 (first .1) in
-    let d = passed (differs (b .dimension) (a .dimension)) 5 (c .1) in
-    let r = passed (badRange recordIdentifiers (view b)) 6 (d .1) in
-    let o = passed (spare b || badOrder (view b)) 7 (r .1) in
-    let w = passed (tooWide (view b)) 8 (o .1) in
-    record {
-      first = record { sized = z .0; passed = valid (given a) (first .0) };
-      second = record {
-        sized = z .1;
-        passed = record {
-          counts = c .0;
-          range = r .0;
-          full = or-left (spare b) (badOrder (view b)) (o .0);
-          order = or-right (spare b) (badOrder (view b)) (o .0);
-          narrow = w .0;
-        };
-      };
-      same = equal (b .dimension) (a .dimension) (d .0);
-    }
-
 -- ---- the work space, and the factors of both
 pub work-space : Space (replicate 960 0) (replicate 480 (pos 0)) (replicate 288 (pos 0))
 work-space = record {
@@ -154,16 +107,6 @@ work-space = record {
   numbers-small = zeros-small 480;
   generators-small = zeros-small 288;
 }
-
-module _ (s u : Zonotope) (p : Option ℕ) (x : PolyZonotope) (m : Zonotope) where
-  pub answer-many : tooMany s u ≡ true → _≡_ {A = Changed} (record { outcome = Refused 9; set = x })
-      (answered (orElse (ofFactors s u) p) x m)
-  unfolding firstOf
-  answer-many e = rw e
-
-  pub answer-few : tooMany s u ≡ false → {y : Changed} → y ≡ answered p x m → y ≡ answered (orElse (ofFactors s u) p) x m
-  unfolding firstOf
-  answer-few e h = rw e h
 
 module _ (s u : Zonotope) {all : Identifiers} (f : Factors (joined s u) all) where
   pub factors-many : ltb maxFactors (all .count) ≡ tooMany s u
@@ -192,20 +135,3 @@ module _ (a : PolyZonotope) (h : Accepted a) (u : Zonotope) (sh : Shaped (joined
   joined-as p =
       finished-held standardWeights 40 24 (joined (view a) u)
       (sum-narrow (joined (view a) u) all s j sh coordinates-few) (sum-wide (joined (view a) u) all s j) p
-
--- ---- the next identifier
-module _ (next : ℕ) (s : Zonotope) where
-  pub next-refused : badNext next s ≡ true → Refused 11 ≡ examined (ofNext next s)
-  unfolding firstOf
-  next-refused e = rw e
-
-  pub next-accepted : badNext next s ≡ false → Accept.Accepted ≡ examined (ofNext next s)
-  unfolding firstOf
-  next-accepted e = rw e
-
-  pub next-in : ofNext next s ≡ none → Next next
-  unfolding firstOf
-  next-in e =
-      let out = any (λ k. not (ltb k next)) (s .identifiers) in
-      let l = or-left (ltb next firstFresh || ltb lastFresh next) out (passed (badNext next s) 11 e .0) in
-      record { few = ltb-false lastFresh next (or-right (ltb next firstFresh) (ltb lastFresh next) l) }

@@ -5,7 +5,8 @@ use Rattle.model.specs.Operations.{renumbered, independentSum}
 use Rattle.zonotope.specs.Record.{view}
 use Rattle.answers.specs.Answer.{ofResult}
 use Rattle.sums.specs.Accepted.{for-sum}
-use Rattle.sums.specs.Summed.{answer-many, answer-few, factors-many, factors-common}
+use Rattle.sums.specs.Summable.{answer-many, answer-few}
+use Rattle.sums.specs.Summed.{factors-many, factors-common}
 use borrow.Author.Needs.{needs}
 use Rattle.sums.proofs.sum.independent.Statement.{statement}
 use Rattle.sums.proofs.sum.independent.Tie as tie
