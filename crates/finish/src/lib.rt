@@ -121,7 +121,7 @@ fn gather(e: &[u8], c: &[i64], places: &mut [u16], heads: &mut [u16], s: &mut [i
     ensures { λ r. ⌜ Gathered (now (e .entry)) (now (heads .exit)) (now (s .exit)) r
         (nonzero (rowsOf (now (e .entry)) (now (c .entry)) (length (now (places .entry))))) ⌝ }
 {
-    let n = rows::collect(e, c, places, heads, s);
+    let n = collect::collect(e, c, places, heads, s);
     rows::drop_zero(heads, s, n)
 }
 
