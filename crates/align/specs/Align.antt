@@ -14,7 +14,7 @@ use Rattle.whole.specs.Tab.{length-tab, getD-tab}
 use Rattle.whole.specs.Write.{write, write-again}
 use Rattle.model.specs.Operations.{align}
 use Rattle.model.proofs.Tests.{and-true, true-and}
-use Rattle.zonotope.specs.Record.{row}
+use Rattle.arrays.specs.Rows.{row}
 use Rattle.align.specs.Listed.{listed}
 
 -- whether factor i of ks is factor k of ms

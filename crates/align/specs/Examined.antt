@@ -19,7 +19,9 @@ use Rattle.model.specs.Valid.{badCounts, tooWide}
 use Rattle.model.proofs.Tests.{or-false, any-false, tab-all}
 use Rattle.model.proofs.Shape.{counted}
 use Rattle.zonotope.specs.declared.PolyZonotope.{PolyZonotope}
-use Rattle.zonotope.specs.Record.{row, view, spare, spareℕ, spareℤ, inRows}
+use Rattle.arrays.specs.Rows.{row}
+use Rattle.arrays.specs.Spare.{spareℕ, spareℤ, inRows}
+use Rattle.zonotope.specs.Record.{view, spare}
 
 -- the tests 4, 7 and 8 of a record that is accepted, as far as sums need them
 pub record Examined (s : PolyZonotope) : Type 0 where

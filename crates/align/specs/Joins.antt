@@ -12,7 +12,8 @@ use Rattle.model.specs.Set.{Term, Zonotope, at}
 use Rattle.model.specs.Operations.{union, align, aligned, joined, renumbered}
 use Rattle.model.proofs.Vectors.{plusℤ-at, plusℕ-at}
 use Rattle.zonotope.specs.declared.PolyZonotope.{PolyZonotope}
-use Rattle.zonotope.specs.Record.{row, view}
+use Rattle.arrays.specs.Rows.{row}
+use Rattle.zonotope.specs.Record.{view}
 use Rattle.rows.specs.Rows.{exponentRow, numberRow, termOf, rowsOf, Small}
 use Rattle.align.specs.declared.Identifiers.{Identifiers}
 use Rattle.align.specs.declared.Sum.{Sum}

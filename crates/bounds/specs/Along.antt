@@ -20,9 +20,9 @@ use Rattle.model.specs.Finish.{allEven}
 use Rattle.model.specs.Step.{dot}
 use Rattle.model.specs.Operations.{least, lowEnd, lowAlong}
 use Rattle.zonotope.specs.declared.PolyZonotope.{PolyZonotope}
-use Rattle.zonotope.specs.Record.{row, view}
+use Rattle.arrays.specs.Rows.{row, sum-tab}
+use Rattle.zonotope.specs.Record.{view}
 use Rattle.zonotope.specs.View.{row-at}
-use Rattle.zonotope.specs.Rows.{sum-tab}
 
 -- every entry of a normal is within document 01's limit
 pub record Entries (a : List ℤ) : Type 0 where

@@ -15,7 +15,9 @@ use Rattle.whole.specs.Tests.{none-at}
 use Rattle.model.proofs.Tests.{or-false}
 use Rattle.model.specs.Set.{Term, at, radius}
 use Rattle.model.specs.Valid.{badCounts}
-use Rattle.zonotope.specs.Record.{row, view, spareℕ, spareℤ, inRows, spare}
+use Rattle.arrays.specs.Rows.{row}
+use Rattle.arrays.specs.Spare.{spareℕ, spareℤ, inRows}
+use Rattle.zonotope.specs.Record.{view, spare}
 use Rattle.zonotope.specs.declared.PolyZonotope.{PolyZonotope}
 use Rattle.forms.specs.Tables.{rowOf}
 use Rattle.raw.specs.Tests.{free, no-row, no-column}

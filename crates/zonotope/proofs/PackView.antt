@@ -15,7 +15,9 @@ use Rattle.whole.specs.Tab.{tab, any, length-tab, getD-tab, getD-tab-past, tab-
 use Rattle.model.specs.Set.{Term}
 use Rattle.model.specs.Valid.{isZero}
 use Rattle.zonotope.specs.declared.PolyZonotope.{PolyZonotope}
-use Rattle.zonotope.specs.Record.{row, view, pack, noTerm, inRows, spareℕ, spareℤ, spare}
+use Rattle.arrays.specs.Rows.{row}
+use Rattle.arrays.specs.Spare.{inRows, spareℕ, spareℤ}
+use Rattle.zonotope.specs.Record.{view, pack, noTerm, spare}
 use Rattle.whole.specs.Tests.{or-left, or-right, none-at}
 use Rattle.zonotope.specs.Shape.{Sized}
 

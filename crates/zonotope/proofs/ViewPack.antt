@@ -15,7 +15,9 @@ use Rattle.rational.specs.Sum.{All, none, more}
 use Rattle.model.specs.Set.{Term, Zonotope, at}
 use Rattle.model.specs.Valid.{badCounts, isZero}
 use Rattle.zonotope.specs.declared.PolyZonotope.{PolyZonotope}
-use Rattle.zonotope.specs.Record.{row, view, pack, noTerm, inRows, spare}
+use Rattle.arrays.specs.Rows.{row}
+use Rattle.arrays.specs.Spare.{inRows}
+use Rattle.zonotope.specs.Record.{view, pack, noTerm, spare}
 use Rattle.whole.specs.Tests.{any-none}
 use Rattle.zonotope.specs.Counts.{countable}
 use Rattle.zonotope.specs.Shape.{Shaped}

@@ -2,16 +2,12 @@
 --     Record   what a record means (`view`), the record of a set (`pack`), and which places are unused
 --     Counts   counts within limits
 --     Shape    the lengths of a record's arrays, the shape of a set
---     Ascent   tables that rise, the order of two rows
---     Rows     sums and tests over rows, by place
 --     View     what a record means, by the places of its arrays
 --     Valid    a set that no cause refuses
 --     Answer   document 01's number for each case of an answer
 pub mod Record
-pub mod Ascent
 pub mod Counts
 pub mod Shape
-pub mod Rows
 pub mod View
 pub mod Valid
 pub mod Answer

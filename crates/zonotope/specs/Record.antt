@@ -1,20 +1,18 @@
 -- What a record means, and the record of a set: rows of 12 exponents and of 6 numbers, the rest 0.
-use mathlib.Core.List.{List, []}
-use mathlib.Core.Bool.{Bool, not, _&&_, _||_}
-use Prim.Native.Nat.{ℕ, _+_, _*_, _/_, _%_}
-use lib.Dec.{ltb, eqb}
+use mathlib.Core.List.{[]}
+use mathlib.Core.Bool.{Bool, _||_}
+use Prim.Native.Nat.{_/_, _%_}
+use lib.Dec.{ltb}
 use lib.ListN.{length, getD}
-use lib.IntN.{ℤ, pos, natAbs}
-use Rattle.whole.specs.Tab.{tab, any}
+use lib.IntN.{pos}
+use Rattle.whole.specs.Tab.{tab}
 use Rattle.model.specs.Set.{Term, Zonotope, at}
 use Rattle.model.specs.Library.{Given}
+use Rattle.arrays.specs.Rows.{row}
+use Rattle.arrays.specs.Spare.{inRows, spareℕ, spareℤ}
 use Rattle.zonotope.specs.declared.PolyZonotope.{PolyZonotope}
 
 -- ---- what a record means
--- the first k of row t of a list of rows of w
-abbrev pub row : {A : Type 0} → ℕ → A → List A → ℕ → ℕ → List A
-row w d xs t k = tab k (λ i. getD xs (t * w + i) d)
-
 unfoldable pub view : PolyZonotope → Zonotope
 view s = record {
   dimension = s .dimension;
@@ -46,17 +44,7 @@ pack m = record {
   radii = tab 6 (λ i. getD (m .radii) i 0);
 }
 
--- ---- unused places: whether one of the n entries of a list that `used` leaves out isn't 0
-abbrev pub spareℕ : List ℕ → ℕ → (ℕ → Bool) → Bool
-spareℕ xs n used = any (λ x. not (used x || eqb (getD xs x 0) 0)) (tab n (λ x. x))
-
-abbrev pub spareℤ : List ℤ → ℕ → (ℕ → Bool) → Bool
-spareℤ xs n used = any (λ x. not (used x || eqb (natAbs (getD xs x (pos 0))) 0)) (tab n (λ x. x))
-
--- place x of rows of w is used in the first k entries of the first t rows
-abbrev pub inRows : ℕ → ℕ → ℕ → ℕ → Bool
-inRows w t k x = ltb (x / w) t && ltb (x % w) k
-
+-- ---- whether a place that the counts leave unused isn't 0
 unfoldable pub spare : PolyZonotope → Bool
 spare s =
     spareℕ (s .identifiers) 12 (λ i. ltb i (s .factors))

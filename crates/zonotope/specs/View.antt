@@ -13,11 +13,12 @@ use Rattle.model.specs.Set.{at, span, termSizes, generatorSizes}
 use Rattle.model.specs.Valid.{order, isLess, rises, isZero, zeros, constant, occurs, badRange, badOrder}
 use Rattle.model.specs.Limits.{recordIdentifiers}
 use Rattle.zonotope.specs.declared.PolyZonotope.{PolyZonotope}
-use Rattle.zonotope.specs.Record.{row, view, inRows, spareℕ, spareℤ, spare}
+use Rattle.arrays.specs.Rows.{row, columnSizes, identifierOut, exponentOut, sum-tab}
+use Rattle.arrays.specs.Spare.{inRows, spareℕ, spareℤ}
+use Rattle.zonotope.specs.Record.{view, spare}
 use Rattle.zonotope.specs.Shape.{Sized}
-use Rattle.zonotope.specs.Rows.{columnSizes, identifierOut, exponentOut, sum-tab}
 use Rattle.whole.specs.Tests.{some-below, each-below, any-places, any-cong, all-cong, any-or}
-use Rattle.zonotope.specs.Ascent.{rises-of}
+use Rattle.arrays.specs.Ascent.{rises-of}
 
 -- a number of a row's used part
 pub row-at : (xs : List ℤ) (t n i : ℕ) → i < n → at (row 6 (pos 0) xs t n) i ≡ getD xs (t * 6 + i) (pos 0)

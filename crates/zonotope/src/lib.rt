@@ -12,10 +12,11 @@ ghost use Rattle.zonotope.specs.Shape.{Sized};
 ghost use Rattle.zonotope.specs.Answer.{examined};
 
 pub mod arguments;
-mod rows;
-mod spare;
 
-// Document 01's limits: of the counts, of an exponent, of a record's identifier and of a coordinate's span.
+use arrays::rows;
+use arrays::spare;
+
+// Document 01's limits: of the counts and of a coordinate's span.
 pub const MAX_DIMENSION: usize = 6;
 
 pub const MAX_FACTORS: usize = 12;
@@ -23,10 +24,6 @@ pub const MAX_FACTORS: usize = 12;
 pub const MAX_TERMS: usize = 40;
 
 pub const MAX_GENERATORS: usize = 24;
-
-pub const MAX_EXPONENT: u8 = 63;
-
-pub const MAX_IDENTIFIER: u32 = 2000000000;
 
 pub const MAX_SPAN: u64 = 1048576;
 

@@ -6,7 +6,7 @@ use native.Mathlib.Omega.{arith}
 use lib.ListN.{length, length-set}
 use borrow.Author.Needs.{needs}
 use Rattle.whole.specs.Write.{write, write-none}
-use Rattle.zonotope.specs.Record.{row}
+use Rattle.arrays.specs.Rows.{row}
 use Rattle.align.specs.Align.{alignedAt, Aligning, aligning-start, met-within, put-met, put-missed}
 use Rattle.align.specs.Listed.{listed}
 use Rattle.align.proofs.wide.align_row.Statement.{statement}

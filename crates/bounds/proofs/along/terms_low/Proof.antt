@@ -13,7 +13,7 @@ use Rattle.whole.specs.Fits.{read64, got64, held, fits-abs}
 use Rattle.whole.specs.Sum.{uptoBy, upto-suc}
 use Rattle.model.specs.Finish.{allEven}
 use Rattle.model.specs.Operations.{least}
-use Rattle.zonotope.specs.Record.{row}
+use Rattle.arrays.specs.Rows.{row}
 use Rattle.bounds.specs.Along.{rowDot, rowBound, leastSum, least-size, grown}
 use Rattle.bounds.proofs.along.terms_low.Statement.{statement}
 use Rattle.bounds.proofs.along.terms_low.Tie as tie

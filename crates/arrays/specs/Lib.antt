@@ -1,0 +1,7 @@
+-- The arrays of a record, in rows.
+--     Rows     rows of a list, sums and tests over them, by place
+--     Spare    unused places
+--     Ascent   tables that rise, the order of two rows
+pub mod Rows
+pub mod Spare
+pub mod Ascent
