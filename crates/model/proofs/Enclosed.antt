@@ -16,7 +16,7 @@ use Rattle.model.specs.Field.{Kind, start, step, disturbance, independen
 use Rattle.model.specs.Field.{meaning}
 use Rattle.model.specs.Run.{State, noSet, current, tag, body, kindOf, meant, refusal, accepted, after, outcome}
 use Rattle.model.specs.Points.{Vector, Point, InRange}
-use Rattle.model.specs.Motion.{Picks, Moment, beginning, move, valuesAfter, follow, InBox, Unsafe, Kept}
+use Rattle.model.specs.Motion.{Picks, Moment, beginning, move, valuesAfter, markAfter, follow, InBox, Unsafe, Kept}
 use Rattle.model.specs.Motion.{Always, Enclosed}
 use Rattle.model.proofs.Held.{Held}
 use Rattle.model.proofs.Accepted.{Passed, accepted-passed}
@@ -54,6 +54,17 @@ answered-safe step b next s q w i e u = let z : _≡_ {A = ℕ} 0 1 = cc in omeg
 answered-safe disturbance b next s q w i e u = let z : _≡_ {A = ℕ} 0 1 = cc in omega arith
 answered-safe reduction b next s q w i e u = let z : _≡_ {A = ℕ} 0 1 = cc in omega arith
 
+-- the next identifier after a field is the mark that its body counts
+next-counted : (k : Kind) (b : List ℕ) (next : ℕ) (s : Zonotope) → meaning k b next s .next ≡ markAfter k b next
+unfolding meaning markAfter
+next-counted start b next s = refl
+next-counted tied b next s = refl
+next-counted independent b next s = refl
+next-counted step b next s = refl
+next-counted disturbance b next s = refl
+next-counted reduction b next s = refl
+next-counted check b next s = refl
+
 -- ---- an accepted field leaves its result, another leaves the set
 -- of a run that isn't over and a field without refusal, or else
 taken : {A : Type 0} (b : Bool) (o : Option ℕ) (x y : A) (z : ℕ → A) → T (cond b false (elim o [ none ↦ true | some n ↦ false ]))
@@ -81,16 +92,19 @@ module _ (st : State) (f : List ℕ) where
   -- a field that isn't accepted keeps the set and the count
   record Same (u : State) : Type 0 where
     set : u .set ≡ st .set
+    next : u .next ≡ st .next
     count : u .count ≡ st .count
 
   other-state : accepted st f ≡ false → Same (after st f)
   unfolding accepted after
-  other-state e = left Same (st .over) (refusal st f) st _ _ (record { set = refl; count = refl })
-      (λ n. record { set = refl; count = refl }) e
+  other-state e = left Same (st .over) (refusal st f) st _ _ (record { set = refl; next = refl; count = refl })
+      (λ n. record { set = refl; next = refl; count = refl }) e
 
 -- ---- the invariant: a motion beside a sound state
 record Good (p : Picks) (now : Moment) : Type 0 where
   sound : Sound (now .state)
+  -- the run's next identifier is the mark that the accepted bodies count
+  counted : now .mark ≡ now .state .next
   ranged : InRange (now .values)
   agree : Agree p (now .values)
   in-set : 0 < now .state .count → Point (current (now .state)) (now .values) (now .position)
@@ -99,12 +113,13 @@ record Good (p : Picks) (now : Moment) : Type 0 where
 moved : Picks → ℕ → Moment → List ℕ → Moment
 moved p m now f = record {
   state = after (now .state) f;
-  values = valuesAfter (kindOf (tag f)) (body f) p m (now .state .next) (now .values);
+  mark = markAfter (kindOf (tag f)) (body f) (now .mark);
+  values = valuesAfter (kindOf (tag f)) (body f) p m (now .mark) (now .values);
   position = move (kindOf (tag f)) (body f) p m (now .position);
 }
 
 stayed : Moment → List ℕ → Moment
-stayed now f = record { state = after (now .state) f; values = now .values; position = now .position }
+stayed now f = record { state = after (now .state) f; mark = now .mark; values = now .values; position = now .position }
 
 follow-is : (p : Picks) (m : ℕ) (now : Moment) (f : List ℕ) → follow p m now f ≡
     cond (accepted (now .state) f) (moved p m now f) (stayed now f)
@@ -113,7 +128,8 @@ follow-is p m now f = go (accepted (now .state) f)
   where
     go : (b : Bool) → record {
       state = after (now .state) f;
-      values = cond b (valuesAfter (kindOf (tag f)) (body f) p m (now .state .next) (now .values)) (now .values);
+      mark = cond b (markAfter (kindOf (tag f)) (body f) (now .mark)) (now .mark);
+      values = cond b (valuesAfter (kindOf (tag f)) (body f) p m (now .mark) (now .values)) (now .values);
       position = cond b (move (kindOf (tag f)) (body f) p m (now .position)) (now .position);
     } ≡ cond b (moved p m now f) (stayed now f)
     go true = refl
@@ -131,20 +147,21 @@ begun {st} s h = go (st .count) refl
 
 module _ (p : Picks) (m : ℕ) (now : Moment) (f : List ℕ) (g : Good p now) (i : Inside p m (kindOf (tag f)) (body f)) where
   abbrev values : Vector
-  values = valuesAfter (kindOf (tag f)) (body f) p m (now .state .next) (now .values)
+  values = valuesAfter (kindOf (tag f)) (body f) p m (now .mark) (now .values)
 
   abbrev position : Vector
   position = move (kindOf (tag f)) (body f) p m (now .position)
 
   values-in : InRange values
-  values-in = values-range (body f) p m (now .state .next) (now .values) (kindOf (tag f)) (g .ranged) (i .own)
+  values-in = values-range (body f) p m (now .mark) (now .values) (kindOf (tag f)) (g .ranged) (i .own)
 
   -- the motion after an accepted field is in its result
   result-point : T (accepted (now .state) f) → Point (meant (now .state) f .result) values position
   result-point t =
       let a = accepted-passed (now .state) f t in
-      keeps (body f) p m (now .state .next) (current (now .state)) (g .ranged) (g .agree) (kindOf (tag f)) i
-      (λ e. let h = current-held (g .sound) f a e in (h, g .in-set (begun (g .sound) h))) (a .passed)
+      subst (λ n. Point (meant (now .state) f .result) (valuesAfter (kindOf (tag f)) (body f) p m n (now .values)) position) (sym (g .counted))
+      (keeps (body f) p m (now .state .next) (current (now .state)) (g .ranged) (g .agree) (kindOf (tag f)) i
+      (λ e. let h = current-held (g .sound) f a e in (h, g .in-set (begun (g .sound) h))) (a .passed))
 
   -- a state's current set after it
   result-is : T (accepted (now .state) f) → meant (now .state) f .result ≡ current (after (now .state) f)
@@ -154,9 +171,12 @@ module _ (p : Picks) (m : ℕ) (now : Moment) (f : List ℕ) (g : Good p now) (i
   unfolding moved
   moved-good t = record {
     sound = after-sound (g .sound) f;
+    counted = ap (markAfter (kindOf (tag f)) (body f)) (g .counted)
+        ∙ sym (next-counted (kindOf (tag f)) (body f) (now .state .next) (current (now .state)))
+        ∙ ap (λ (st : State). st .next) (sym (accepted-state (now .state) f t));
     ranged = values-in;
     agree = λ k h. g .agree k h
-        ∙ sym (old-value (body f) p m (now .state .next) (now .values) (kindOf (tag f)) k (omega (arith, g .sound .from-first)));
+        ∙ sym (old-value (body f) p m (now .mark) (now .values) (kindOf (tag f)) k (omega (arith, g .sound .from-first, g .counted)));
     in-set = λ h. subst (λ s. Point s values position) (result-is t) (result-point t);
   }
 
@@ -167,8 +187,9 @@ module _ (p : Picks) (m : ℕ) (now : Moment) (f : List ℕ) (g : Good p now) (i
       let k = kindOf (tag f) in let b = body f in let next = now .state .next in let s = current (now .state) in
       record {
         in-set = subst (λ s. Point s values position) (result-is t) (result-point t);
-        in-box = λ place x e. subst (InBox position) (answered-box k b next s x (sym (accepted-outcome (now .state) f t place) ∙ e))
-            (box-point values-in (result-point t));
+        in-box = λ place x e. subst (λ n. InBox n position x) (ap (λ (u : Zonotope). u .dimension) (result-is t))
+            (subst (InBox (meant (now .state) f .result .dimension) position)
+            (answered-box k b next s x (sym (accepted-outcome (now .state) f t place) ∙ e)) (box-point values-in (result-point t)));
         not-unsafe = λ place e. answered-safe k b next s q values-in (result-point t) (sym (accepted-outcome (now .state) f t place) ∙ e);
       }
 
@@ -179,6 +200,7 @@ module _ (p : Picks) (m : ℕ) (now : Moment) (f : List ℕ) (g : Good p now) (i
       let n = same .count in
       record {
         sound = after-sound (g .sound) f;
+        counted = g .counted ∙ sym (same .next);
         ranged = g .ranged;
         agree = g .agree;
         in-set = λ h. subst (λ o. Point (Option·getD o noSet) (now .values) (now .position)) (sym (same .set)) (g .in-set (omega arith));
@@ -203,7 +225,7 @@ always p m now (f ∷ fs) g h =
     (n .1, always p (suc m) (follow p m now f) fs (n .0) (λ j. rw (suc-add m j) (rw (add-suc m j) at (h (suc j)))))
 
 begin-good : (p : Picks) → InRange (p .values) → Good p (beginning p)
-begin-good p w = record { sound = begin-sound; ranged = w; agree = λ k h. refl; in-set = λ h. absurd (omega arith) }
+begin-good p w = record { sound = begin-sound; counted = refl; ranged = w; agree = λ k h. refl; in-set = λ h. absurd (omega arith) }
 
 -- Demand 3.
 pub enclosed : Enclosed

@@ -37,6 +37,7 @@ use Rattle.model.specs.Motion.{Picks, Allowed, Moment, beginning, move, 
 abbrev forgotten : Moment → Moment
 forgotten now = record {
   state = record { set = now .state .set; next = firstFresh; count = now .state .count; over = now .state .over };
+  mark = now .mark;
   values = now .values;
   position = now .position;
 }
@@ -121,5 +122,6 @@ position =
 pub old-edition-loses : ¬ ((fields : List (List ℕ)) (p : Picks) → Allowed p fields → OldAlways p 0 (beginning p) fields)
 old-edition-loses claim =
     let kept = claim fields picks allowed .1 .1 .0 (computed .0) in
-    let le = subst (_≤ℚ ι (pos 4096)) position (kept .in-box 0 narrow (computed .1) .below 0 (lit< tt)) in
+    let b = kept .in-box 0 narrow (computed .1) in
+    let le = subst (_≤ℚ ι (pos 4096)) position (b .below 0 (subst (0 <_) (b .sides .1) (lit< tt))) in
     ι-≤ (pos 12288) (pos 4096) .0 le .le

@@ -14,7 +14,8 @@ use Rattle.rational.specs.Sum.{sum, All}
 use Rattle.model.specs.Set.{Zonotope, at, radius}
 use Rattle.model.specs.Step.{Step, linearAt, quadraticAt}
 use Rattle.model.specs.Operations.{Box, Halfspace}
-use Rattle.model.specs.Body.{dimension, givenSet, givenStep, givenRadii, givenHalfspaces}
+use Rattle.model.specs.Limits.{firstFresh}
+use Rattle.model.specs.Body.{dimension, factors, givenSet, givenStep, givenRadii, givenHalfspaces}
 use Rattle.model.specs.Field.{Kind, start, step, disturbance, independent, tied, reduction, check, inside, verdict}
 use Rattle.model.specs.Run.{State, begin, current, tag, body, kindOf, accepted, after, outcome}
 use Rattle.model.specs.Points.{Vector, valueAt, Point, InRange}
@@ -83,29 +84,42 @@ valuesAfter disturbance b p m next α k = α k
 valuesAfter reduction b p m next α k = α k
 valuesAfter check b p m next α k = α k
 
--- ---- a run and a motion beside it
+-- the mark that the accepted bodies count: an independent sum takes a number for each identifier of its body
+unfoldable pub markAfter : Kind → List ℕ → ℕ → ℕ
+markAfter independent b mark = mark + factors b
+markAfter start b mark = mark
+markAfter step b mark = mark
+markAfter tied b mark = mark
+markAfter disturbance b mark = mark
+markAfter reduction b mark = mark
+markAfter check b mark = mark
+
+-- ---- a run and a motion beside it; the mark is the motion's own count, not the run's
 pub record Moment : Type 0 where
   pub state : State
+  pub mark : ℕ
   pub values : Vector
   pub position : Vector
 
 -- begun with no set; the position is none until the start set gives one
 abbrev pub beginning : Picks → Moment
-beginning p = record { state = begin; values = p .values; position = λ i. 0ℚ }
+beginning p = record { state = begin; mark = firstFresh; values = p .values; position = λ i. 0ℚ }
 
 -- field m: an accepted one moves the motion, another leaves it
 unfoldable pub follow : Picks → ℕ → Moment → List ℕ → Moment
 follow p m now f = let k = kindOf (tag f) in let b = body f in record {
   state = after (now .state) f;
-  values = cond (accepted (now .state) f) (valuesAfter k b p m (now .state .next) (now .values)) (now .values);
+  mark = cond (accepted (now .state) f) (markAfter k b (now .mark)) (now .mark);
+  values = cond (accepted (now .state) f) (valuesAfter k b p m (now .mark) (now .values)) (now .values);
   position = cond (accepted (now .state) f) (move k b p m (now .position)) (now .position);
 }
 
 -- ---- the claim
--- x is in the box
-pub record InBox (x : Vector) (b : Box) : Type 0 where
-  pub above : (i : ℕ) → i < length (b .lows) → ι (at (b .lows) i) ≤ℚ x i
-  pub below : (i : ℕ) → i < length (b .highs) → x i ≤ℚ ι (at (b .highs) i)
+-- x, in n coordinates, is in the box, which has two ends for each of them
+pub record InBox (n : ℕ) (x : Vector) (b : Box) : Type 0 where
+  pub sides : (length (b .lows) ≡ n) × (length (b .highs) ≡ n)
+  pub above : (i : ℕ) → i < n → ι (at (b .lows) i) ≤ℚ x i
+  pub below : (i : ℕ) → i < n → x i ≤ℚ ι (at (b .highs) i)
 
 -- x is in the unsafe region: normal·x ≤ bound for each halfspace
 abbrev pub Unsafe : List Halfspace → ℕ → Vector → Type 0
@@ -116,7 +130,7 @@ pub record Kept (st : State) (f : List ℕ) (now : Moment) : Type 0 where
   -- the motion is a point of the current set at its own factor values
   pub in-set : Point (current (now .state)) (now .values) (now .position)
   -- it is inside the box that the field answers
-  pub in-box : (place : ℕ) (b : Box) → outcome place st f ≡ inside b → InBox (now .position) b
+  pub in-box : (place : ℕ) (b : Box) → outcome place st f ≡ inside b → InBox (current (now .state) .dimension) (now .position) b
   -- where a check says safe, it is not in the unsafe region
   pub not-unsafe : (place : ℕ) → outcome place st f ≡ verdict true →
       ¬ (Unsafe (givenHalfspaces (body f)) (dimension (body f)) (now .position))
