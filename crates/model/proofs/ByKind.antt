@@ -12,7 +12,8 @@ use Rattle.model.specs.Limits.{maxFactors, maxTerms, maxGenerators, file
 use Rattle.model.specs.Set.{Zonotope}
 use Rattle.model.specs.Body.{dimension, factors, givenSet, stepRows, stepColumns, givenStep, givenRadii}
 use Rattle.model.specs.Body.{termLimit, generatorLimit}
-use Rattle.model.specs.Field.{Kind, start, step, disturbance, independent, tied, reduction, check, Meaning, meaning, badDimension}
+use Rattle.model.specs.Field.{Kind, start, step, disturbance, independent, tied, reduction, check, unknown, Meaning}
+use Rattle.model.specs.Field.{meaning, badDimension}
 use Rattle.model.proofs.Tests.{or-false}
 use Rattle.model.proofs.Shape.{Valid, counted, ranged}
 use Rattle.model.proofs.Held.{Held, held, held-up, valid-ready, reduce-held, step-held, sum-held, independent-held, disturb-held}
@@ -27,6 +28,7 @@ starts independent = false
 starts tied = false
 starts reduction = false
 starts check = false
+starts unknown = false
 
 -- the set in the body of a start, tied or independent field is valid
 abbrev pub BodyValid : Kind → List ℕ → Type 0
@@ -37,8 +39,9 @@ BodyValid independent b = Valid fileIdentifiers (givenSet b)
 BodyValid tied b = Valid fileIdentifiers (givenSet b)
 BodyValid reduction b = Unit {0}
 BodyValid check b = Unit {0}
+BodyValid unknown b = Unit {0}
 
--- the dimension that a body claims of a set of dimension n; a start set and a reduction claim none
+-- the dimension that a body claims of a set of dimension n; a start set, a reduction and an unknown field claim none
 abbrev pub claimed : Kind → List ℕ → ℕ → ℕ
 claimed start b n = n
 claimed step b n = stepColumns b
@@ -47,6 +50,7 @@ claimed independent b n = dimension b
 claimed tied b n = dimension b
 claimed reduction b n = n
 claimed check b n = dimension b
+claimed unknown b n = n
 
 module _ (b : List ℕ) (next : ℕ) (s : Zonotope) where
   -- The set in an accepted field's body is valid, with identifiers up to 65,535.
@@ -59,6 +63,7 @@ module _ (b : List ℕ) (next : ℕ) (s : Zonotope) where
   body-valid tied p = given-valid b _ _ _ _ p
   body-valid reduction p = tt
   body-valid check p = tt
+  body-valid unknown p = tt
 
   -- The dimension that an accepted field's body claims is the given set's.
   pub dimension-same : (k : Kind) → Passed (meaning k b next s) → claimed k b (s .dimension) ≡ s .dimension
@@ -70,6 +75,7 @@ module _ (b : List ℕ) (next : ℕ) (s : Zonotope) where
   dimension-same tied p = same _ _ (p .dimension)
   dimension-same reduction p = refl
   dimension-same check p = same _ _ (p .dimension)
+  dimension-same unknown p = refl
 
 -- ---- what it leaves
 pub record Leaves (next : ℕ) (m : Meaning) : Type 0 where
@@ -119,3 +125,4 @@ leaves reduction b next s l h p =
     let c = or-false (ltb maxTerms (termLimit b)) (ltb maxGenerators (generatorLimit b)) (p .counts) in
     same-next refl (reduce-held standardWeights (h refl) (ltb-false _ _ (c .0)) (ltb-false _ _ (c .1)) (p .result-width))
 leaves check b next s l h p = same-next refl (h refl)
+leaves unknown b next s l h p = same-next refl (h refl)

@@ -21,7 +21,8 @@ use Rattle.model.specs.Step.{Step, quadraticAt, slope, independent, rema
 use Rattle.model.specs.Step.{step}
 use Rattle.model.specs.Points.{Vector, valueAt, Point, InRange}
 use Rattle.model.specs.Motion.{image}
-use Rattle.model.proofs.FoldsNothing.{FoldsNothing, finish-exact}
+use Rattle.model.specs.Precision.{StepClose}
+use Rattle.model.proofs.FoldsNothing.{finish-exact}
 use Rattle.model.proofs.WholeForms.{ι-+ℕ, ι-*ℕ}
 use Rattle.model.proofs.RawPoint.{raw-image}
 use Rattle.model.proofs.Rounded.{round-value, near-times, unscale, ≤-whole}
@@ -111,9 +112,8 @@ module _ (p : Step) (s : Zonotope) (no-generators : s .generators ≡ []) (no-ra
       (λ j _. near-as (near-refl (valueAt s α [] j)) refl (ap (λ m. ι (pos m)) (sym (no-radii j)))))
       pt i h (getD-tab (p .rows) (remainder p s) 0 i h ∙ remainder-zero i)
 
-  -- Closeness (demand 2): the same of a step that folds nothing
-  pub step-close : (weights : List ℕ) → FoldsNothing maxTerms maxGenerators (rounded (raw p s)) → {α z : Vector} → InRange α
-      → Point (step weights p s) α z → (i : ℕ) → i < p .rows
-      → Near (z i) (image p (valueAt s α []) i) (ι (pos (inexactAt (raw p s) i)) +ℚ ½)
-  unfolding step
-  step-close weights n w pt i h = close w (finish-exact weights maxTerms maxGenerators n .1 pt) i h
+-- Closeness (demand 2): the same of a step that folds nothing
+pub step-close : StepClose
+unfolding step
+step-close p s no-generators no-radii weights n α z w pt i h =
+    close p s no-generators no-radii w (finish-exact weights maxTerms maxGenerators n .1 pt) i h

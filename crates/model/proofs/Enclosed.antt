@@ -12,7 +12,7 @@ use lib.ListN.{getD}
 use Rattle.model.specs.Set.{Zonotope}
 use Rattle.model.specs.Operations.{Box, box, safe}
 use Rattle.model.specs.Body.{dimension, givenHalfspaces}
-use Rattle.model.specs.Field.{Kind, start, step, disturbance, independent, tied, reduction, check, inside, verdict}
+use Rattle.model.specs.Field.{Kind, start, step, disturbance, independent, tied, reduction, check, unknown, inside, verdict}
 use Rattle.model.specs.Field.{meaning}
 use Rattle.model.specs.Run.{State, noSet, current, tag, body, kindOf, meant, refusal, accepted, after, outcome}
 use Rattle.model.specs.Points.{Vector, Point, InRange}
@@ -38,6 +38,7 @@ answered-box step b next s x e = cc
 answered-box disturbance b next s x e = cc
 answered-box reduction b next s x e = cc
 answered-box check b next s x e = let z : _≡_ {A = ℕ} 0 1 = cc in absurd (omega arith)
+answered-box unknown b next s x e = let z : _≡_ {A = ℕ} 0 1 = cc in absurd (omega arith)
 
 -- where a verdict is safe, no point of the result is in the unsafe region
 answered-safe : (k : Kind) (b : List ℕ) (next : ℕ) (s : Zonotope) {α x : Vector} → Passed (meaning k b next s) → InRange α
@@ -53,6 +54,7 @@ answered-safe independent b next s q w i e u = let z : _≡_ {A = ℕ} 0 1 = cc 
 answered-safe step b next s q w i e u = let z : _≡_ {A = ℕ} 0 1 = cc in omega arith
 answered-safe disturbance b next s q w i e u = let z : _≡_ {A = ℕ} 0 1 = cc in omega arith
 answered-safe reduction b next s q w i e u = let z : _≡_ {A = ℕ} 0 1 = cc in omega arith
+answered-safe unknown b next s q w i e u = let z : _≡_ {A = ℕ} 0 1 = cc in omega arith
 
 -- the next identifier after a field is the mark that its body counts
 next-counted : (k : Kind) (b : List ℕ) (next : ℕ) (s : Zonotope) → meaning k b next s .next ≡ markAfter k b next
@@ -64,6 +66,7 @@ next-counted step b next s = refl
 next-counted disturbance b next s = refl
 next-counted reduction b next s = refl
 next-counted check b next s = refl
+next-counted unknown b next s = refl
 
 -- ---- an accepted field leaves its result, another leaves the set
 -- of a run that isn't over and a field without refusal, or else

@@ -19,20 +19,13 @@ use Rattle.model.specs.Valid.{rises}
 use Rattle.model.specs.Limits.{maxTerms, maxGenerators}
 use Rattle.model.specs.Operations.{joined, tiedSum, renumbered, independentSum, disturb}
 use Rattle.model.specs.Points.{Vector, valueAt, Point}
+use Rattle.model.specs.Precision.{FoldsNothing, Split, TiedExact, IndependentExact, Moved, DisturbedExact}
 use Rattle.model.proofs.Vectors.{plusℕ-at}
 use Rattle.model.proofs.FoldCovers.{cut}
-use Rattle.model.proofs.FoldsNothing.{FoldsNothing, finish-exact}
+use Rattle.model.proofs.FoldsNothing.{finish-exact}
 use Rattle.model.proofs.Shares.{firstShare, secondShare, first-near, second-near, shares-sum}
 use Rattle.model.proofs.SumPoints.{joined-value, joined-points, disturbed-point}
-use Rattle.model.proofs.Values.{same-values, Renumbers, renumbered-points}
-
--- z is the sum of a point of s at α and a point of u at β
-pub record Split (s u : Zonotope) (α β z : Vector) : Type 0 where
-  pub first : Vector
-  pub second : Vector
-  pub first-point : Point s α first
-  pub second-point : Point u β second
-  pub sum-is : (i : ℕ) → i < s .dimension → z i ≡ first i +ℚ second i
+use Rattle.model.proofs.Values.{same-values, renumbered-points}
 
 -- a point is what its coordinates are
 point-as : {s : Zonotope} {α x z : Vector} → ((i : ℕ) → i < s .dimension → z i ≡ x i) → Point s α x → Point s α z
@@ -78,11 +71,11 @@ module _ {s u : Zonotope} (rising : rises ltb (s .identifiers) ≡ true) (dimens
   unfolding joined
   joined-exact = (joined-split, λ p. point-as (p .sum-is) (joined-points rising dimensions (p .first-point) (p .second-point)))
 
-  -- where the tied sum folds nothing, its points are the sums of points at the same factor values
-  pub tied-exact : (weights : List ℕ) → FoldsNothing maxTerms maxGenerators (joined s u) → {α z : Vector}
-      → Point (tiedSum weights s u) α z ↔ Split s u α α z
-  unfolding tiedSum
-  tied-exact weights n = Iff·trans (Iff·symm (finish-exact weights maxTerms maxGenerators n)) joined-exact
+-- where the tied sum folds nothing, its points are the sums of points at the same factor values
+pub tied-exact : TiedExact
+unfolding tiedSum
+tied-exact s u rising dimensions weights n α z =
+    Iff·trans (Iff·symm (finish-exact weights maxTerms maxGenerators n)) (joined-exact rising dimensions)
 
 -- ---- the independent sum
 split-as : {s t u : Zonotope} {α β γ δ z : Vector} → ((x : Vector) → Point s α x → Point s γ x) → ((y : Vector) → Point t β y → Point u δ y)
@@ -95,35 +88,23 @@ split-as f g p = record {
   sum-is = p .sum-is;
 }
 
--- where the independent sum folds nothing, its points are the sums of points of s at α and of u at β, each with values of its own: γ has
--- those of s below `next`, and from there on those of u
-pub independent-exact : (weights : List ℕ) (next : ℕ) {s u : Zonotope} → rises ltb (s .identifiers) ≡ true → s .dimension ≡ u .dimension
-    → All (_< next) (s .identifiers) → FoldsNothing maxTerms maxGenerators (joined s (renumbered next u)) → {α β γ z : Vector}
-    → ((k : ℕ) → k < next → γ k ≡ α k) → Renumbers next (u .identifiers) β γ
-    → Point (independentSum weights next s u) γ z ↔ Split s u α β z
+-- where the independent sum folds nothing, its points are the sums of points, each set with values of its own
+pub independent-exact : IndependentExact
 unfolding independentSum renumbered
-independent-exact weights next {s} {u} r d b n {α} {β} {γ} a f =
+independent-exact weights next s u r d b n α β γ z a f =
     let one : (x : Vector) → Point s γ x ↔ Point s α x = λ x. same-values (All-imp a b) in
     let other : (y : Vector) → Point (renumbered next u) γ y ↔ Point u β y = λ y. Iff·symm (renumbered-points next u f) in
-    Iff·trans (tied-exact {s = s} {u = renumbered next u} r d weights n)
+    Iff·trans (tied-exact s (renumbered next u) r d weights n γ z)
     (split-as (λ x. one x .0) (λ y. other y .0), split-as (λ x. one x .1) (λ y. other y .1))
 
 -- ---- the disturbance
--- z is a point of s at α, moved by an offset within the radii r
-pub record Moved (r : List ℕ) (s : Zonotope) (α z : Vector) : Type 0 where
-  pub place : Vector
-  pub offset : Vector
-  pub point : Point s α place
-  pub within : (i : ℕ) → i < s .dimension → Within (offset i) (ι (pos (getD r i 0)))
-  pub sum-is : (i : ℕ) → i < s .dimension → z i ≡ place i +ℚ offset i
-
 near-zero : {x r : ℚ} → Near x 0ℚ r → Within x r
 near-zero {r = r} n = subst (λ y. Within y r) (sym (n .is ∙ zero-+ℚ (n .off))) (n .small)
 
 -- the points of a disturbed set are the points of the set, moved by offsets within the radii
-pub disturbed-exact : (r : List ℕ) (s : Zonotope) {α z : Vector} → Point (disturb r s) α z ↔ Moved r s α z
+pub disturbed-exact : DisturbedExact
 unfolding disturb valueAt
-disturbed-exact r s {α} {z} = (
+disturbed-exact r s α z = (
   λ p. let v = valueAt s α (p .numbers) in let m = radius s in let n : ℕ → ℕ = λ i. getD r i 0 in
       let near : (i : ℕ) → i < s .dimension → Near (z i) (v i +ℚ 0ℚ) (ι (pos (m i + n i))) =
       λ i h. near-as (p .near i h) (sym (+ℚ-zero (v i))) (ap (λ k. ι (pos k)) (plusℕ-at (s .radii) r i)) in

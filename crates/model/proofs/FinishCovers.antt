@@ -2,7 +2,8 @@
 use mathlib.Core.List.{List}
 use Prim.Native.Nat.{ℕ}
 use Rattle.model.specs.Set.{Zonotope}
-use Rattle.model.specs.Finish.{collectTerms, dropZeroTerms, dropZeroGenerators, foldHigh, foldTerms, foldGenerators, finish}
+use Rattle.model.specs.Finish.{collectTerms, dropZeroTerms, foldHigh, foldTerms, foldGenerators, finish}
+use Rattle.model.specs.Precision.{cleaned}
 use Rattle.model.proofs.Covers.{Covers, covers-trans}
 use Rattle.model.proofs.Alike.{Alike, alike-trans, alike-covers}
 use Rattle.model.proofs.CollectCovers.{collect-alike, zero-terms-alike}
@@ -10,11 +11,7 @@ use Rattle.model.proofs.ZeroGenerators.{zero-generators-alike}
 use Rattle.model.proofs.FoldStages.{fold-high-covers, fold-terms-covers, fold-generators-covers}
 use Rattle.model.proofs.UnusedCovers.{unused-alike}
 
--- the set after stages 1 and 2: equal terms added, zeros dropped
-abbrev pub cleaned : Zonotope → Zonotope
-cleaned s = dropZeroGenerators (dropZeroTerms (collectTerms s))
-
--- its points are the set's
+-- with equal terms added and zeros dropped, a set has the same points
 pub cleaned-alike : (s : Zonotope) → Alike s (cleaned s)
 cleaned-alike s = alike-trans (collect-alike s)
     (alike-trans (zero-terms-alike (collectTerms s)) (zero-generators-alike (dropZeroTerms (collectTerms s))))

@@ -3,24 +3,18 @@ use mathlib.Core.Path.{_≡_, refl, sym, _∙_, ap, ap₂, subst}
 use mathlib.Core.List.{List, [], _∷_}
 use mathlib.Core.Bool.{Bool, false, not}
 use mathlib.Core.Logic.{_↔_}
-use Prim.Native.Nat.{ℕ, _≤_}
-use lib.ListN.{length}
+use Prim.Native.Nat.{ℕ}
 use Rattle.rational.specs.Sum.{All, none, more, All-imp}
 use Rattle.model.specs.Set.{Zonotope}
 use Rattle.model.specs.Finish.{core, those, foldAll, foldTerm, high, withTerms}
 use Rattle.model.specs.Finish.{foldHigh, foldTerms, foldGenerators, dropUnused, finish}
 use Rattle.model.specs.Points.{Vector, Point}
+use Rattle.model.specs.Precision.{cleaned, FoldsNothing}
 use Rattle.model.proofs.Shape.{Low, not-high}
 use Rattle.model.proofs.FirstBySize.{terms-few, generators-few}
 use Rattle.model.proofs.Alike.{Alike, alike-trans}
-use Rattle.model.proofs.FinishCovers.{cleaned, cleaned-alike}
+use Rattle.model.proofs.FinishCovers.{cleaned-alike}
 use Rattle.model.proofs.UnusedCovers.{unused-alike}
-
--- with equal terms added and zeros dropped, no exponent is too large and neither limit is passed
-pub record FoldsNothing (h q : ℕ) (s : Zonotope) : Type 0 where
-  pub low-exponents : All Low (cleaned s .terms)
-  pub few-terms : length (cleaned s .terms) ≤ h
-  pub few-generators : length (cleaned s .generators) ≤ q
 
 none-pass : {A : Type 0} (p : A → Bool) {l : List A} → All (λ a. p a ≡ false) l → those p l ≡ []
 unfolding those

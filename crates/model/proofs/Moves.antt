@@ -19,15 +19,16 @@ use Rattle.model.specs.Valid.{rises}
 use Rattle.model.specs.Step as Step
 use Rattle.model.specs.Operations.{reduce}
 use Rattle.model.specs.Body.{givenSet, givenStep, givenRadii, termLimit, generatorLimit}
-use Rattle.model.specs.Field.{Kind, start, step, disturbance, independent, tied, reduction, check, meaning}
+use Rattle.model.specs.Field.{Kind, start, step, disturbance, independent, tied, reduction, check, unknown, meaning}
 use Rattle.model.specs.Points.{Vector, Point, InRange}
 use Rattle.model.specs.Motion.{Picks, bodyPoint, offsetLimit, move, valuesAfter}
+use Rattle.model.specs.Precision.{Renumbers}
 use Rattle.model.proofs.Tests.{all-tab, true-rises}
 use Rattle.model.proofs.Shape.{Valid, Ordered, ranged}
 use Rattle.model.proofs.Held.{Held}
 use Rattle.model.proofs.Accepted.{Passed, given-dimension}
 use Rattle.model.proofs.ByKind.{starts, body-valid, dimension-same}
-use Rattle.model.proofs.Values.{same-values, Renumbers}
+use Rattle.model.proofs.Values.{same-values}
 use Rattle.model.proofs.SumPoints.{tied-point, independent-point, disturbed-point}
 use Rattle.model.proofs.FinishCovers.{finish-covers}
 use Rattle.model.proofs.StepPoint.{step-point}
@@ -76,6 +77,7 @@ module _ (b : List ℕ) (p : Picks) (m next : ℕ) (α : Vector) where
   old-value tied j h = refl
   old-value reduction j h = refl
   old-value check j h = refl
+  old-value unknown j h = refl
   old-value independent j h = rw (lt-ltb j next h)
 
   -- a fresh one takes the sum's own value of the body's identifier
@@ -94,6 +96,7 @@ module _ (b : List ℕ) (p : Picks) (m next : ℕ) (α : Vector) where
   values-range tied w o j = w j
   values-range reduction w o j = w j
   values-range check w o j = w j
+  values-range unknown w o j = w j
   values-range independent w o j = cond-range (ltb j next) (w j) (o _)
 
 -- ---- the kinds
@@ -119,3 +122,4 @@ module _ (b : List ℕ) (p : Picks) (m next : ℕ) (s : Zonotope) {α x : Vector
   keeps disturbance i h q = disturbed-point (givenRadii b) (λ j l. i .offsets j) (h refl .1)
   keeps reduction i h q = finish-covers standardWeights (termLimit b) (generatorLimit b) s .keeps w (h refl .1)
   keeps check i h q = h refl .1
+  keeps unknown i h q = h refl .1

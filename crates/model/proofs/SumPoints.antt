@@ -19,10 +19,11 @@ use Rattle.model.specs.Valid.{rises}
 use Rattle.model.specs.Limits.{maxTerms, maxGenerators}
 use Rattle.model.specs.Operations.{union, align, aligned, joined, tiedSum, renumbered, independentSum, disturb}
 use Rattle.model.specs.Points.{Vector, monomial, termsAt, generatorsAt, valueAt, Point, InRange}
+use Rattle.model.specs.Precision.{Renumbers}
 use Rattle.model.proofs.Vectors.{plusℤ-at, plusℕ-at}
 use Rattle.model.proofs.Parts.{spread, spread-++, generatorParts, generatorParts-++, generators-spread}
 use Rattle.model.proofs.Aligned.{Found, monomial-aligned, found-left, found-right}
-use Rattle.model.proofs.Values.{same-values, Renumbers, renumbered-points}
+use Rattle.model.proofs.Values.{same-values, renumbered-points}
 use Rattle.model.proofs.FinishCovers.{finish-covers}
 
 -- ---- what the sum comes to

@@ -11,6 +11,7 @@ use Rattle.rational.specs.Sum.{sum-cong, All, none, more}
 use Rattle.model.specs.Set.{Term, Zonotope, at}
 use Rattle.model.specs.Operations.{renumbered}
 use Rattle.model.specs.Points.{Vector, monomial, termsAt, Point}
+use Rattle.model.specs.Precision.{Renumbers}
 use Rattle.model.proofs.Alike.{withFactors, points-as}
 
 -- the monomial of a list of values
@@ -49,10 +50,6 @@ map-all (more h t) = ap₂ _∷_ h (map-all t)
 -- values that agree on a set's identifiers give it the same points
 pub same-values : {s : Zonotope} {α β x : Vector} → All (λ k. α k ≡ β k) (s .identifiers) → Point s α x ↔ Point s β x
 same-values {s} {α} {β} h = points-by-values s α β (s .identifiers) (map-all h)
-
--- β's values for the identifiers ks are γ's for next, next + 1 ..
-abbrev pub Renumbers : ℕ → List ℕ → Vector → Vector → Type 0
-Renumbers next ks β γ = (j : ℕ) → j < length ks → γ (next + j) ≡ β (getD ks j 0)
 
 -- a renumbered set has the points of the set
 pub renumbered-points : (next : ℕ) (u : Zonotope) {β γ x : Vector} → Renumbers next (u .identifiers) β γ

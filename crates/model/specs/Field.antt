@@ -18,9 +18,9 @@ use Rattle.model.specs.Body.{dimension, factors, termCount, generatorCou
 use Rattle.model.specs.Body.{stepLength, givenStep, disturbanceWords, givenRadii, termLimit, generatorLimit, halfspaceCount}
 use Rattle.model.specs.Body.{halfspaceAt, givenHalfspaces}
 
--- tags 1 to 7
+-- tags 1 to 7 have a kind; any other is unknown
 pub data Kind : Type 0 where
-  start step disturbance independent tied reduction check : Kind
+  start step disturbance independent tied reduction check unknown : Kind
 
 -- a box, a verdict (safe or unknown), or a refusal with its number and the position of the field's first byte;
 -- a field after a refusal is skipped
@@ -151,4 +151,18 @@ meaning check b next s = record {
   result = s;
   next = next;
   outcome = verdict (safe (givenHalfspaces b) s);
+}
+-- an unknown tag is refused (2) before anything of this is asked
+meaning unknown b next s = record {
+  countBytes = 0;
+  wrongCounts = false;
+  bytes = 0;
+  wrongDimension = false;
+  outOfRange = false;
+  disordered = false;
+  wide = false;
+  manyFactors = false;
+  result = s;
+  next = next;
+  outcome = skipped;
 }

@@ -11,6 +11,7 @@
 --     Pairs        the order of a step's pairs
 --     Points       the points of a set at given factor values
 --     Motion       what a motion is, and what is claimed of every motion (demand 3)
+--     Precision    how close the results are to the true points, and what is claimed of that (demand 2)
 pub mod Limits
 pub mod Set
 pub mod Valid
@@ -25,3 +26,4 @@ pub mod Library
 pub mod Pairs
 pub mod Points
 pub mod Motion
+pub mod Precision

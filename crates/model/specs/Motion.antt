@@ -16,7 +16,8 @@ use Rattle.model.specs.Step.{Step, linearAt, quadraticAt}
 use Rattle.model.specs.Operations.{Box, Halfspace}
 use Rattle.model.specs.Limits.{firstFresh}
 use Rattle.model.specs.Body.{dimension, factors, givenSet, givenStep, givenRadii, givenHalfspaces}
-use Rattle.model.specs.Field.{Kind, start, step, disturbance, independent, tied, reduction, check, inside, verdict}
+use Rattle.model.specs.Field.{Kind, start, step, disturbance, independent, tied, reduction, check, unknown, inside}
+use Rattle.model.specs.Field.{verdict}
 use Rattle.model.specs.Run.{State, begin, current, tag, body, kindOf, accepted, after, outcome}
 use Rattle.model.specs.Points.{Vector, valueAt, Point, InRange}
 
@@ -40,6 +41,7 @@ offsetLimit disturbance b i = getD (givenRadii b) i 0
 offsetLimit step b i = 0
 offsetLimit reduction b i = 0
 offsetLimit check b i = 0
+offsetLimit unknown b i = 0
 
 -- every pick is inside its limit
 pub record Allowed (p : Picks) (fields : List (List ℕ)) : Type 0 where
@@ -73,6 +75,7 @@ move independent b p m x i = x i +ℚ bodyPoint p m (givenSet b) (p .own m) i
 move disturbance b p m x i = x i +ℚ p .offsets m i
 move reduction b p m x i = x i
 move check b p m x i = x i
+move unknown b p m x i = x i
 
 -- the values of identifiers: those that an independent sum made fresh, from `next` on, take that sum's own values
 unfoldable pub valuesAfter : Kind → List ℕ → Picks → ℕ → ℕ → Vector → Vector
@@ -83,6 +86,7 @@ valuesAfter tied b p m next α k = α k
 valuesAfter disturbance b p m next α k = α k
 valuesAfter reduction b p m next α k = α k
 valuesAfter check b p m next α k = α k
+valuesAfter unknown b p m next α k = α k
 
 -- the mark that the accepted bodies count: an independent sum takes a number for each identifier of its body
 unfoldable pub markAfter : Kind → List ℕ → ℕ → ℕ
@@ -93,6 +97,7 @@ markAfter tied b mark = mark
 markAfter disturbance b mark = mark
 markAfter reduction b mark = mark
 markAfter check b mark = mark
+markAfter unknown b mark = mark
 
 -- ---- a run and a motion beside it; the mark is the motion's own count, not the run's
 pub record Moment : Type 0 where

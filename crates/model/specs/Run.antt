@@ -9,7 +9,7 @@ use Rattle.model.specs.Limits.{firstFresh, lastField}
 use Rattle.model.specs.Set.{Zonotope}
 use Rattle.model.specs.Valid.{tooWide}
 use Rattle.model.specs.Bytes.{byte, number}
-use Rattle.model.specs.Field.{Kind, start, step, disturbance, independent, tied, reduction, check}
+use Rattle.model.specs.Field.{Kind, start, step, disturbance, independent, tied, reduction, check, unknown}
 use Rattle.model.specs.Field.{Outcome, refused, skipped, Meaning, meaning}
 
 -- ---- the state: the current set, if any; the next fresh identifier (document 01: the mark); how many fields were accepted; whether one
@@ -41,11 +41,11 @@ bodyLength f = number 2 f 1
 abbrev pub body : List ℕ → List ℕ
 body f = take (bodyLength f) (drop 3 f)
 
--- the kind of a tag from 1 to 7; another is refused before its kind matters
+-- the kind of a tag
 unfoldable pub kindOf : ℕ → Kind
 kindOf t =
     cond (eqb t 1) start (cond (eqb t 2) step (cond (eqb t 3) disturbance (cond (eqb t 4) independent
-    (cond (eqb t 5) tied (cond (eqb t 6) reduction check)))))
+    (cond (eqb t 5) tied (cond (eqb t 6) reduction (cond (eqb t 7) check unknown))))))
 
 -- what the field means in this state
 abbrev pub meant : State → List ℕ → Meaning
@@ -76,13 +76,10 @@ misplaced (suc n) (t ∷ f) = ltb t 2 || ltb 7 t
 unfoldable pub cut : List ℕ → Bool
 cut f = ltb (length f) 3 || ltb (length f) (3 + bodyLength f)
 
--- the causes of a refusal, in the order in which they are asked
-unfoldable pub causes : State → List ℕ → List Cause
-causes st f = let m = meant st f in let bytes = length (body f) in
-    (12 if ltb lastField (st .count))
-    ∷ (2 if misplaced (st .count) f)
-    ∷ (1 if cut f)
-    ∷ (3 if ltb bytes (m .countBytes))
+-- the causes of a refusal by what a field means, where its body has this many bytes
+abbrev pub ofBody : Meaning → ℕ → List Cause
+ofBody m bytes =
+    (3 if ltb bytes (m .countBytes))
     ∷ (4 if m .wrongCounts)
     ∷ (3 if not (eqb bytes (m .bytes)))
     ∷ (5 if m .wrongDimension)
@@ -92,6 +89,11 @@ causes st f = let m = meant st f in let bytes = length (body f) in
     ∷ (9 if m .manyFactors)
     ∷ (10 if tooWide (m .result))
     ∷ []
+
+-- all causes, in the order in which they are asked: too many fields, the tag, the header, the body
+unfoldable pub causes : State → List ℕ → List Cause
+causes st f =
+    (12 if ltb lastField (st .count)) ∷ (2 if misplaced (st .count) f) ∷ (1 if cut f) ∷ ofBody (meant st f) (length (body f))
 
 -- the number of the refusal, where there is one
 abbrev pub refusal : State → List ℕ → Option ℕ
