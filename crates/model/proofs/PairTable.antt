@@ -1,6 +1,5 @@
--- The pair table's rule for 40 terms, by computed tests over the whole table: 820 places, each of which belongs to one pair, and each
--- pair to
--- one place, in row order.
+-- The pair table's rule for 40 terms, by computed tests over the whole table: 820 places in row order, each of one pair, and each pair
+-- has a place.
 use mathlib.Core.Path.{_≡_, refl, sym, _∙_, ap}
 use mathlib.Core.Bool.{Bool, true, false, not, _&&_, _||_}
 use Prim.Native.Nat.{ℕ, _+_, _*_, _-_, _/_, _%_, _<_, _≤_}

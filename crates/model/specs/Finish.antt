@@ -97,15 +97,17 @@ unfoldable pub smallest : {A : Type 0} → (A → ℕ) → A → List A → Take
 smallest f a [] = record { out = a; rest = [] }
 smallest f a (b ∷ l) = smaller f a (b ∷ l) (smallest f b l)
 
+-- folds the smallest of a list
 unfoldable pub foldSmallest : {A : Type 0} → (A → ℕ) → (A → Core → Core) → Core → List A → Folded A
 foldSmallest f fold k [] = record { core = k; kept = [] }
 foldSmallest f fold k (a ∷ l) = record { core = fold (smallest f a l .out) k; kept = smallest f a l .rest }
 
+-- folds the smallest n times
 unfoldable pub foldTimes : {A : Type 0} → (A → ℕ) → (A → Core → Core) → ℕ → Core → List A → Folded A
 foldTimes f fold zero k l = record { core = k; kept = l }
 foldTimes f fold (suc n) k l = foldTimes f fold n (foldSmallest f fold k l .core) (foldSmallest f fold k l .kept)
 
--- until `limit` are left
+-- folds the smallest, of equals the later, one at a time, until `limit` are left; a list that is no longer stays as it is
 abbrev pub foldUntil : {A : Type 0} → (A → ℕ) → (A → Core → Core) → ℕ → Core → List A → Folded A
 foldUntil f fold limit k l = foldTimes f fold (length l - limit) k l
 
@@ -119,9 +121,11 @@ abbrev pub keepExponents : (ℕ → Bool) → Term → Term
 keepExponents p t = record { exponents = keepAt p 0 (t .exponents); coefficients = t .coefficients }
 
 -- ---- the stages, in document 01's order
+-- centre and radii of a set
 abbrev pub core : Zonotope → Core
 core s = record { centre = s .centre; radii = s .radii }
 
+-- the set after some of its terms, or of its generators, were folded
 abbrev pub withTerms : Zonotope → Folded Term → Zonotope
 withTerms s f = record {
   dimension = s .dimension;
@@ -142,16 +146,34 @@ withGenerators s f = record {
   radii = f .core .radii;
 }
 
+-- other terms, and all else as it is
+abbrev pub onTerms : (List Term → List Term) → Zonotope → Zonotope
+onTerms f s = record {
+  dimension = s .dimension;
+  identifiers = s .identifiers;
+  centre = s .centre;
+  terms = f (s .terms);
+  generators = s .generators;
+  radii = s .radii;
+}
+
 -- 1. terms are sorted by exponents and equal ones added
 unfoldable pub collectTerms : Zonotope → Zonotope
-collectTerms s = withTerms s (record { core = core s; kept = collect (s .terms) })
+collectTerms s = onTerms collect s
 
 -- 2. all-zero terms and generators are dropped
 unfoldable pub dropZeroTerms : Zonotope → Zonotope
-dropZeroTerms s = withTerms s (record { core = core s; kept = those (λ t. not (zeros (t .coefficients))) (s .terms) })
+dropZeroTerms s = onTerms (those (λ t. not (zeros (t .coefficients)))) s
 
 unfoldable pub dropZeroGenerators : Zonotope → Zonotope
-dropZeroGenerators s = withGenerators s (record { core = core s; kept = those (λ g. not (zeros g)) (s .generators) })
+dropZeroGenerators s = record {
+  dimension = s .dimension;
+  identifiers = s .identifiers;
+  centre = s .centre;
+  terms = s .terms;
+  generators = those (λ g. not (zeros g)) (s .generators);
+  radii = s .radii;
+}
 
 -- 3. terms with an exponent that is too large are folded
 unfoldable pub foldHigh : Zonotope → Zonotope

@@ -9,6 +9,7 @@
 --     Run          the state, the refusals in their order, one field, a list of fields, a whole input
 --     Library      single operations on records: their refusals in order
 --     Pairs        the order of a step's pairs
+--     Marked       the table of marked cases
 --     Points       the points of a set at given factor values
 --     Motion       what a motion is, and what is claimed of every motion (demand 3)
 --     Precision    how close the results are to the true points, and what is claimed of that (demand 2)
@@ -24,6 +25,7 @@ pub mod Field
 pub mod Run
 pub mod Library
 pub mod Pairs
+pub mod Marked
 pub mod Points
 pub mod Motion
 pub mod Precision

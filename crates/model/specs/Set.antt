@@ -1,6 +1,5 @@
--- A set: a sparse polynomial zonotope with generators and a box around it (Definition 1 of source document 001, with the independent
--- part kept
--- as generators and radii). All its numbers are whole multiples of 1/4096 of the user's unit (document 01: grains).
+-- A set: a sparse polynomial zonotope (Definition 1 of source document 001) with the independent part kept as generators and radii.
+-- All its numbers are whole multiples of 1/4096 of the user's unit (document 01: grains).
 use mathlib.Core.List.{List, [], _∷_}
 use Prim.Native.Nat.{ℕ, _+_}
 use lib.ListN.{getD}

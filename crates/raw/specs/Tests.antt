@@ -12,7 +12,7 @@ use Rattle.rows.specs.Rows.{Small}
 use Rattle.model.specs.Set.{at}
 use Rattle.model.specs.Field.{beyond}
 
--- an unused place's test: it is or-false used nor free
+-- a place that is used or empty, and isn't used, is empty
 pub free : (used empty : Bool) → not (used || empty) ≡ false → used ≡ false → empty ≡ true
 free true empty h u = cc
 free false empty h u = not-false empty h

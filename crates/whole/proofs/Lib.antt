@@ -1,4 +1,3 @@
 pub mod Stored
 pub mod Divide
 pub mod Magnitude
-pub mod Marked
