@@ -14,7 +14,7 @@ ghost use Rattle.align.specs.Examined.{Examined};
 ghost use Rattle.align.specs.Sum.{summed, exponentsOf, Factors, Common, Terms, Generators, Space, Joined};
 use zonotope::PolyZonotope;
 
-mod factors;
+mod numbering;
 mod wide;
 
 // Identifiers of up to 24 factors, in the first `count` places.
@@ -36,7 +36,7 @@ pub fn tied_identifiers(a: PolyZonotope, b: PolyZonotope) -> Identifiers
     requires { ⌜ Examined a × Examined b ⌝ }
     ensures { λ r. ⌜ Factors (joined (view a) (view b)) r ⌝ }
 {
-    factors::unite(&a.identifiers, a.factors, &b.identifiers, b.factors)
+    numbering::unite(&a.identifiers, a.factors, &b.identifiers, b.factors)
 }
 
 // The identifiers of the independent sum: those of the second set become next, next + 1 ..
@@ -45,8 +45,8 @@ pub fn independent_identifiers(next: u32, a: PolyZonotope, b: PolyZonotope) -> I
     ensures { λ r. ⌜ Factors (joined (view a) (renumbered next (view b))) r ⌝ }
 {
     let q = b.factors;
-    let fresh = factors::renumber(next, q);
-    factors::unite(&a.identifiers, a.factors, &fresh, q)
+    let fresh = numbering::renumber(next, q);
+    numbering::unite(&a.identifiers, a.factors, &fresh, q)
 }
 
 // The tied sum before finishing, over its identifiers.
@@ -81,7 +81,7 @@ pub fn independent(
     ensures { λ r. ⌜ Joined (joined (view a) (renumbered next (view b))) all r (now (e .entry)) (now (e .exit)) (now (c .entry))
         (now (c .exit)) (now (g .entry)) (now (g .exit)) ⌝ }
 {
-    let ids = factors::renumber(next, b.factors);
+    let ids = numbering::renumber(next, b.factors);
     join(a, b, &ids, all, e, c, g)
 }
 

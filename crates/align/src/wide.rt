@@ -8,7 +8,7 @@ ghost use Rattle.whole.specs.Write.{write};
 ghost use Rattle.align.specs.Listed.{listed};
 ghost use Rattle.align.specs.Align.{meet, alignedAt};
 ghost use Rattle.align.specs.Runs.{flat};
-use crate::factors;
+use crate::numbering;
 
 // Whether factor i of the first p is factor k of the first n.
 fn meets(ids: &[u32; 12], p: usize, i: usize, all: &[u32; 24], n: usize, k: usize) -> bool
@@ -17,7 +17,7 @@ fn meets(ids: &[u32; 12], p: usize, i: usize, all: &[u32; 24], n: usize, k: usiz
 {
     if i < p {
         let id = ids[i];
-        return factors::stands_at(all, n, k, id);
+        return numbering::stands_at(all, n, k, id);
     }
     false
 }

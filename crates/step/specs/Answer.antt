@@ -8,13 +8,7 @@ use lib.ListN.{length, drop, replicate}
 use lib.IntN.{ℤ}
 use Rattle.model.specs.Step.{Step}
 use Rattle.model.specs.Library.{Given, stepRefusal}
-
--- the places that a step needs: six numbers and twelve exponents for each of 40 terms and 820 pairs
-abbrev pub workNumbers : ℕ
-workNumbers = 5160
-
-abbrev pub workExponents : ℕ
-workExponents = 10320
+use Rattle.stepping.specs.Work.{workNumbers, workExponents}
 
 -- 13: a work slice is too short
 abbrev pub noRoom : ℕ → ℕ → Bool

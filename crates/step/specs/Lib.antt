@@ -1,9 +1,7 @@
 -- The polynomial step of a set.
 --     Answer    the refusal of a step, and what the work slices hold afterwards
 --     Order     the refusal by its parts: room, the set, the step's own numbers, the result
---     Cleared   a slice whose first places are written 0
---     Held      the rounded image in rows is a set in wide form, with numbers for which nothing overflows
+--     Left      what a work slice is left with
 pub mod Answer
 pub mod Order
-pub mod Cleared
-pub mod Held
+pub mod Left

@@ -3,16 +3,15 @@ use mathlib.Core.Path.{_≡_, refl, sym, ap, _∙_}
 use mathlib.Core.List.{List, [], _∷_, _++_}
 use mathlib.Core.Option.{Option, none, some}
 use mathlib.Core.Bool.{Bool, true, false, not, cond, _||_, true≢false}
-use Prim.Native.Nat.{ℕ, _*_, _≤_}
+use Prim.Native.Nat.{ℕ, _≤_}
 use borrow.Author.Tests.{ltb-false, not-true}
 use lib.Dec.{ltb, eqb}
-use lib.ListN.{length}
-use Rattle.whole.specs.Tab.{any, all}
-use Rattle.model.specs.Limits.{maxConstant, maxEntry, standardWeights}
+use Rattle.whole.specs.Tab.{all}
+use Rattle.model.specs.Limits.{standardWeights}
 use Rattle.model.specs.Valid.{tooWide}
 use Rattle.model.specs.Step as Step
 use Rattle.model.specs.Step.{Step}
-use Rattle.model.specs.Field.{badDimension, beyond, differs}
+use Rattle.model.specs.Field.{differs}
 use Rattle.model.specs.Run.{Cause, _if_, firstOf}
 use Rattle.model.specs.Library.{Given, ofFirst, examine, stepRefusal}
 use Rattle.model.proofs.Tests.{and-true}
@@ -27,38 +26,9 @@ use Rattle.image.specs.StepAccepted.{StepAccepted}
 use Rattle.answers.specs.Answer.{ofResult, isRefused, none-refuses}
 use Rattle.answers.specs.Order.{in-order, neither}
 use Rattle.answers.specs.Accepted.{Accepted}
-use Rattle.step.specs.Answer.{workNumbers, workExponents, noRoom, worked}
-
--- 4, 3 and 6: the step's counts, the lengths of its lists, their entries
-abbrev pub wrongCounts : Step → Bool
-wrongCounts p = badDimension (p .rows) || badDimension (p .columns)
-
-abbrev pub wrongLengths : Step → Bool
-wrongLengths p =
-    differs (length (p .constant)) (p .rows)
-    || differs (length (p .linear)) (p .rows * p .columns)
-    || differs (length (p .quadratic)) (p .rows * p .columns * p .columns)
-
-abbrev pub outOfRange : Step → Bool
-outOfRange p = any (beyond maxConstant) (p .constant) || any (beyond maxEntry) (p .linear) || any (beyond maxEntry) (p .quadratic)
-
-pub counts-in : (p : Step) → wrongCounts p ≡ false → (p .rows ≤ 6) × (p .columns ≤ 6)
-counts-in p e = (
-  within (p .rows) (or-left (badDimension (p .rows)) (badDimension (p .columns)) e),
-  within (p .columns) (or-right (badDimension (p .rows)) (badDimension (p .columns)) e),
-)
-  where
-    within : (n : ℕ) → badDimension n ≡ false → n ≤ 6
-    within n h = ltb-false 6 n (or-right (eqb n 0) (ltb 6 n) h)
-
--- the step's own numbers, for a set of this dimension
-abbrev pub ofArguments : Step → ℕ → List Cause
-ofArguments p dimension =
-    (4 if wrongCounts p)
-    ∷ (3 if wrongLengths p)
-    ∷ (5 if differs (p .columns) dimension)
-    ∷ (6 if outOfRange p)
-    ∷ []
+use Rattle.stepping.specs.Work.{workNumbers, workExponents}
+use Rattle.stepping.specs.Arguments.{wrongCounts, wrongLengths, outOfRange, ofArguments}
+use Rattle.step.specs.Answer.{noRoom, worked}
 
 -- the set, then the step
 abbrev pub ofSetAndStep : Step → Given → Option ℕ

@@ -6,18 +6,17 @@ ghost use Rattle.model.specs.Step.{step};
 ghost use Rattle.zonotope.specs.Record.{view, given};
 ghost use Rattle.image.specs.StepAccepted.{stepOf};
 ghost use Rattle.answers.specs.Answer.{answered};
-ghost use Rattle.step.specs.Answer.{refusalOf, workNumbers, workExponents, leftIn};
+ghost use Rattle.stepping.specs.Work.{workNumbers, workExponents};
+ghost use Rattle.step.specs.Answer.{refusalOf, leftIn};
 use answers::Changed;
 use zonotope::PolyZonotope;
 
-mod finished;
 mod refusals;
-mod work;
 
 // How many places of its work slices a step needs.
-pub const WORK_NUMBERS: usize = 5160;
+pub const WORK_NUMBERS: usize = stepping::WORK_NUMBERS;
 
-pub const WORK_EXPONENTS: usize = 10320;
+pub const WORK_EXPONENTS: usize = stepping::WORK_EXPONENTS;
 
 // The set's image under the step from n coordinates to m: c, then A by rows, then Q by forms and rows. w and e are work space; where the
 // step was worked out, also where its result is refused with 10, their first 5,160 and 10,320 places are 0 afterwards. Else they are as
@@ -44,8 +43,8 @@ pub fn step(
     if answers::is_refused(o) {
         return Changed { outcome: o, set: s };
     }
-    let f = finished::image_finished(s, m, n, c, a, q, w, e);
-    work::clear_numbers(w);
-    work::clear_exponents(e);
+    let f = stepping::image_finished(s, m, n, c, a, q, w, e);
+    stepping::work::clear_numbers(w);
+    stepping::work::clear_exponents(e);
     answers::settle(s, f)
 }

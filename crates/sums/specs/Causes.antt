@@ -21,6 +21,7 @@ use Rattle.zonotope.specs.declared.Examined.the-variants.{Refused}
 use Rattle.zonotope.specs.Answer.{examined, orElse, first-append}
 use Rattle.answers.specs.Answer.{ofResult}
 use Rattle.answers.specs.Order.{orElse-assoc, in-order}
+use Rattle.summing.specs.Summable.{ofFactors}
 
 -- ---- a disturbance's radii, for n coordinates: 4, 3, 5, 6
 abbrev pub ofRadii : ℕ → List ℕ → ℕ → List Cause
@@ -72,10 +73,6 @@ module _ (g h : Given) where
       → r ≡ examined (firstOf (ofSecond g h))
   unfolding firstOf examine
   second-rest e d p = rw (e, eq-eqb (h .set .dimension) (g .set .dimension) d) (rw e at p)
-
--- 9: there are too many factors together
-abbrev pub ofFactors : Zonotope → Zonotope → Option ℕ
-ofFactors s u = firstOf ((9 if tooMany s u) ∷ [])
 
 pub tied-order : (g h : Given)
     → tiedRefusal g h ≡ orElse (beforeSumming g h) (orElse (ofFactors (g .set) (h .set))

@@ -8,11 +8,7 @@ ghost use Rattle.answers.specs.Answer.{answered};
 use answers::Changed;
 use zonotope::PolyZonotope;
 
-mod disturbance;
-mod finishing;
-mod reduction;
 mod refusals;
-mod sum;
 
 // The set with radii for n coordinates added to its own.
 pub fn disturb(s: PolyZonotope, n: usize, radii: &[u32]) -> Changed
@@ -22,7 +18,7 @@ pub fn disturb(s: PolyZonotope, n: usize, radii: &[u32]) -> Changed
     if answers::is_refused(o) {
         return Changed { outcome: o, set: s };
     }
-    disturbance::disturbed(s, radii)
+    summing::disturbance::disturbed(s, radii)
 }
 
 // The set with at most this many terms and generators, the smallest ones folded.
@@ -34,8 +30,7 @@ pub fn reduce(s: PolyZonotope, term_limit: usize, generator_limit: usize) -> Cha
     if answers::is_refused(o) {
         return Changed { outcome: o, set: s };
     }
-    let f = reduction::reduced(s, term_limit, generator_limit);
-    answers::settle(s, f)
+    summing::reduction::reduced(s, term_limit, generator_limit)
 }
 
 // The sum in which factors with one identifier are one factor (document 01: the tied sum).
@@ -49,7 +44,7 @@ pub fn tied_sum(first: PolyZonotope, second: PolyZonotope) -> Changed
             set: first,
         };
     }
-    sum::tied(first, second)
+    summing::sum::tied(first, second)
 }
 
 // The sum in which the second set's factors are its own, with the identifiers next, next + 1 ..
@@ -64,5 +59,5 @@ pub fn independent_sum(first: PolyZonotope, second: PolyZonotope, next: u32) -> 
             set: first,
         };
     }
-    sum::independent(first, second, next)
+    summing::sum::independent(first, second, next)
 }

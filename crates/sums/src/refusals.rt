@@ -5,7 +5,7 @@ ghost use Prim.Native.Nat.{_≤_};
 ghost use lib.Dec.{ltb};
 ghost use lib.ListN.{getD};
 ghost use Rattle.whole.specs.Tab.{tab, any};
-ghost use Rattle.model.specs.Limits.{maxFactors, maxTerms, maxGenerators, maxDisturbance};
+ghost use Rattle.model.specs.Limits.{maxTerms, maxGenerators, maxDisturbance};
 ghost use Rattle.model.specs.Run.{firstOf};
 ghost use Rattle.model.specs.Library.{ofSecond, badNext};
 ghost use Rattle.zonotope.specs.Record.{view, given};
@@ -138,13 +138,6 @@ fn radii_out(radii: &[u32]) -> bool
         }
     }
     false
-}
-
-// 9: whether there are more factors than a set can have.
-pub fn too_many(count: usize) -> bool
-    ensures { λ r. ⌜ r ≡ ltb maxFactors count ⌝ }
-{
-    zonotope::MAX_FACTORS < count
 }
 
 // 11: whether the next identifier is out of its range or not above the set's identifiers.

@@ -12,9 +12,10 @@ use Rattle.model.specs.Library.{Given, stepRefusal}
 use Rattle.zonotope.specs.Record.{view, given}
 use Rattle.image.specs.StepAccepted.{stepOf}
 use Rattle.answers.specs.Answer.{ofResult, isRefused, accepting, none-refuses, answer-refused, answer-next}
-use Rattle.step.specs.Answer.{workNumbers, workExponents, noRoom}
+use Rattle.stepping.specs.Work.{workNumbers, workExponents}
+use Rattle.step.specs.Answer.{noRoom}
 use Rattle.step.specs.Order.{beforeStepping, step-order, not-worked, was-worked, Acceptable, acceptable}
-use Rattle.step.specs.Cleared.{left-alone, left-cleared}
+use Rattle.step.specs.Left.{left-alone, left-cleared}
 use borrow.Author.Needs.{needs}
 use Rattle.step.proofs.step.Statement.{statement}
 use Rattle.step.proofs.step.Tie as tie

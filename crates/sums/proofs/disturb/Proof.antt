@@ -4,7 +4,7 @@ use Rattle.model.specs.Operations.{disturb}
 use Rattle.zonotope.specs.Record.{view, given}
 use Rattle.answers.specs.Answer.{ofResult, accepting, none-refuses, answer-refused, answer-next}
 use Rattle.sums.specs.Causes.{beforeDisturbing, disturb-order}
-use Rattle.sums.specs.Disturb.{disturbable}
+use Rattle.sums.specs.Passed.{disturbable}
 use borrow.Author.Needs.{needs}
 use Rattle.sums.proofs.disturb.Statement.{statement}
 use Rattle.sums.proofs.disturb.Tie as tie

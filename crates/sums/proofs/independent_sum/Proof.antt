@@ -5,9 +5,10 @@ use Rattle.model.specs.Operations.{renumbered, independentSum}
 use Rattle.zonotope.specs.Record.{view, given}
 use Rattle.zonotope.specs.Answer.{orElse}
 use Rattle.answers.specs.Answer.{ofResult, accepting, none-refuses, answer-refused, answer-next}
-use Rattle.sums.specs.Causes.{beforeSumming, ofFactors, ofNext, independent-order}
+use Rattle.summing.specs.Summable.{ofFactors}
+use Rattle.sums.specs.Causes.{beforeSumming, ofNext, independent-order}
 use Rattle.answers.specs.Order.{neither}
-use Rattle.sums.specs.Summable.{summable, next-in}
+use Rattle.sums.specs.Passed.{summable, next-in}
 use borrow.Author.Needs.{needs}
 use Rattle.sums.proofs.independent_sum.Statement.{statement}
 use Rattle.sums.proofs.independent_sum.Tie as tie

@@ -5,7 +5,7 @@ use Rattle.model.specs.Operations.{reduce}
 use Rattle.zonotope.specs.Record.{view, given}
 use Rattle.answers.specs.Answer.{ofResult, accepting, none-refuses, answer-refused, answer-next}
 use Rattle.sums.specs.Causes.{beforeReducing, reduce-order}
-use Rattle.sums.specs.Accepted.{limits-accepted}
+use Rattle.sums.specs.Passed.{limits-accepted}
 use borrow.Author.Needs.{needs}
 use Rattle.sums.proofs.reduce.Statement.{statement}
 use Rattle.sums.proofs.reduce.Tie as tie
@@ -31,18 +31,15 @@ reduced-requires c κs =
     let a = c .before .before .before .args in
     limits-accepted (a .s) (a .term-limit) (a .generator-limit) (o .1 (accepting _ yes)) (none-refuses _ (o .0) yes)
 
-settle-requires : tie.Need-settle-requires
-settle-requires c κs = search needs
-
 returns-2 : tie.Need-returns-2
 returns-2 c =
-    let i = c .before .before in
+    let i = c .before in
     let a = i .before .before .before .args in
     let m = reduce standardWeights (a .term-limit) (a .generator-limit) (view (a .s)) in
     let o = i .before .before .before-reducing .ensures in
     answer-next (beforeReducing (a .term-limit) (a .generator-limit) (given (a .s))) (ofResult m) (o .0)
     (reduce-order (a .term-limit) (a .generator-limit) (given (a .s))) (a .s) m (sym (i .before .is-refused .ensures) ∙ i .if1 .left)
-    (c .settle .ensures m (c .before .reduced .ensures))
+    (c .reduced .ensures)
 
 pub reduce-spec : {M : Type 1} → statement M
 reduce-spec =
@@ -52,5 +49,4 @@ reduce-spec =
     is-refused-requires
     returns
     reduced-requires
-    settle-requires
     returns-2)

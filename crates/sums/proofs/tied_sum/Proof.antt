@@ -5,8 +5,9 @@ use Rattle.model.specs.Operations.{tiedSum}
 use Rattle.zonotope.specs.Record.{view, given}
 use Rattle.zonotope.specs.Answer.{orElse}
 use Rattle.answers.specs.Answer.{ofResult, accepting, none-refuses, answer-refused, answer-next}
-use Rattle.sums.specs.Causes.{beforeSumming, ofFactors, tied-order}
-use Rattle.sums.specs.Summable.{summable}
+use Rattle.summing.specs.Summable.{ofFactors}
+use Rattle.sums.specs.Causes.{beforeSumming, tied-order}
+use Rattle.sums.specs.Passed.{summable}
 use borrow.Author.Needs.{needs}
 use Rattle.sums.proofs.tied_sum.Statement.{statement}
 use Rattle.sums.proofs.tied_sum.Tie as tie

@@ -5,7 +5,7 @@ use Rattle.model.specs.Library.{examine}
 use Rattle.zonotope.specs.Record.{view, given}
 use Rattle.image.specs.StepAccepted.{stepOf}
 use Rattle.answers.specs.Answer.{accepting, refused-first, asked-next}
-use Rattle.step.specs.Order.{ofArguments}
+use Rattle.stepping.specs.Arguments.{ofArguments}
 use borrow.Author.Needs.{needs}
 use Rattle.step.proofs.refusals.of_set_and_step.Statement.{statement}
 use Rattle.step.proofs.refusals.of_set_and_step.Tie as tie

@@ -5,8 +5,8 @@ use Rattle.zonotope.specs.Answer.{refused}
 use Rattle.align.specs.Examined.{counts}
 use Rattle.answers.specs.Answer.{accepting, none-refuses, refused-first, refused-not, asked-next}
 use Rattle.sums.specs.Causes.{beforeSumming, ofNext}
-use Rattle.sums.specs.Accepted.{for-sum}
-use Rattle.sums.specs.Summable.{summable, next-refused, next-accepted}
+use Rattle.summing.specs.Summand.{for-sum}
+use Rattle.sums.specs.Passed.{summable, next-refused, next-accepted}
 use borrow.Author.Needs.{needs}
 use Rattle.sums.proofs.refusals.before_renumbering.Statement.{statement}
 use Rattle.sums.proofs.refusals.before_renumbering.Tie as tie

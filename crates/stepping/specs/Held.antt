@@ -1,0 +1,163 @@
+-- The rounded image of an accepted set in rows: a set in wide form, with numbers for which nothing overflows.
+use mathlib.Core.Path.{_≡_, refl, sym, ap, ap₂, _∙_}
+use mathlib.Core.List.{List, [], map}
+use Prim.Native.Nat.{ℕ, _+_, _*_, _-_, _<_, _≤_}
+use native.Mathlib.Decide.{decLt}
+use native.Mathlib.Omega.{arith}
+use lib.ListN.{length, getD, take, length-map, List·getD-eq-default}
+use lib.Seq.{length-take-le}
+use lib.IntN.{ℤ, pos, natAbs}
+use Rattle.whole.specs.Round.{round}
+use Rattle.whole.specs.Tab.{tab, length-tab, tab-cong, tab-getD, map-tab, tab-row}
+use Rattle.whole.specs.Write.{getD-take}
+use Rattle.model.specs.Limits.{maxTerms, maxGenerators, standardWeights}
+use Rattle.model.specs.Set.{Zonotope, at}
+use Rattle.model.specs.Finish.{finish}
+use Rattle.model.specs.Step.{Step, raw, rounded, step, rawLinear}
+use Rattle.model.proofs.StepShape.{step-ready}
+use Rattle.zonotope.specs.declared.PolyZonotope.{PolyZonotope}
+use Rattle.zonotope.specs.Record.{view}
+use Rattle.zonotope.specs.Counts.{InLimits, in-limits}
+use Rattle.rows.specs.Rows.{numberRow, rowsOf, Small}
+use Rattle.raw.specs.Accepted as Raw
+use Rattle.raw.specs.Unused.{generatorAt}
+use Rattle.raw.specs.Append.{Bounded, Kept, term-same}
+use Rattle.raw.specs.Parts.{wideVectors}
+use Rattle.image.specs.declared.Image.{Image}
+use Rattle.image.specs.StepAccepted.{StepAccepted, shaped}
+use Rattle.image.specs.Imaged.{Imaged}
+use Rattle.image.specs.Remainder.{imageLimit}
+use Rattle.finish.specs.declared.Unfinished.{Unfinished}
+use Rattle.finish.specs.declared.Finished.{Finished}
+use Rattle.finish.specs.Held.{held, finishedAs}
+use Rattle.finish.specs.Wide.{wide, wideVector}
+use Rattle.finish.specs.WideFinish.{Narrow}
+use Rattle.answers.specs.Accepted.{Accepted, ready}
+use Rattle.answers.specs.Finishing.{Finishable, finished-held}
+use Rattle.stepping.specs.Work.{workNumbers, workExponents}
+
+-- the image without its terms and generators
+abbrev pub unfinishedImage : Step → PolyZonotope → Image → Unfinished
+unfinishedImage p s r = record {
+  dimension = p .rows;
+  factors = s .factors;
+  identifiers = s .identifiers;
+  centre = r .centre;
+  radii = r .radii;
+}
+
+-- as far as the image needs it
+pub for-image : {s : PolyZonotope} → Accepted s → Raw.Accepted s
+for-image a = record {
+  counts = a .passed .counts;
+  range = a .passed .range;
+  unused = a .passed .full;
+  narrow = a .passed .narrow;
+}
+
+-- the part of a slice that is lent: its first n places
+abbrev pub part : {A : Type 0} → ℕ → List A → List A
+part n xs = take (n - 0) xs
+
+-- ---- rows in the parts that hold them
+rows-part : (e : List ℕ) (w : List ℤ) (n : ℕ) → rowsOf (part (n * 12) e) (part (n * 6) w) n ≡ rowsOf e w n
+unfolding rowsOf
+rows-part e w n =
+    tab-cong n _ _ (λ t h. term-same
+    (tab-cong 12 _ _ (λ k l. getD-take (n * 12 - 0) e (t * 12 + k) 0 (omega arith)))
+    (tab-cong 6 _ _ (λ j l. getD-take (n * 6 - 0) w (t * 6 + j) (pos 0) (omega arith))))
+
+-- numbers that are small in the first n places are small in the part that is lent
+part-small : (K n : ℕ) (w : List ℤ) → n ≤ length w → Bounded K n w → Small K (part n w)
+part-small K n w fits b = record { small = λ i. go i (decLt i n) }
+  where
+    go : (i : ℕ) → Dec (i < n) → natAbs (at (part n w) i) ≤ K
+    go i (yes l) = rw (getD-take (n - 0) w i (pos 0) (omega arith)) (b .bounded i l)
+    go i (no l) =
+        rw (List·getD-eq-default (part n w) (pos 0) {n = i} (omega (arith, length-take-le (n - 0) w (omega arith)))) (omega arith)
+
+-- ---- generators in rows of six
+vector-rows : (gs : List (List ℤ)) → length gs ≤ 24 → tab (length gs) (numberRow (wideVectors gs)) ≡ map wideVector gs
+vector-rows gs few =
+    tab-cong (length gs) _ (λ t. wideVector (getD gs t [])) (λ t h. tab-row (pos 0) 6 144 t (λ q i. at (getD gs q []) i) (omega arith))
+    ∙ sym (map-tab wideVector (length gs) (λ t. getD gs t []))
+    ∙ ap (map wideVector) (tab-getD (length gs) gs [] refl)
+
+module _ (p : Step) (s : PolyZonotope) (a : Accepted s) (ok : StepAccepted p) where
+  abbrev image : Zonotope
+  image = rounded (raw p (view s))
+
+  generators-many : length (image .generators) ≡ s .generators
+  unfolding rounded raw view
+  generators-many =
+      length-map (raw p (view s) .generators) (map round)
+      ∙ length-map (view s .generators) (λ g. tab (p .rows) (rawLinear p (view s) g))
+      ∙ length-tab (s .generators) (generatorAt s)
+
+  few : InLimits s
+  few = in-limits s (a .passed .counts)
+
+  image-narrow : Narrow image
+  unfolding rounded raw view
+  image-narrow = record {
+    shaped = step-ready p (ready s a) .shaped;
+    coordinates = shaped p ok .rows;
+    factors = rw (length-tab (s .factors) (λ i. getD (s .identifiers) i 0)) (few .factors);
+  }
+
+  -- ---- in the rows that `of_step` leaves
+  module _ {e₀ e : List ℕ} {w₀ w : List ℤ} {r : Image} (d : Imaged p s e₀ w₀ r e w) (le : 10320 ≤ length e) (lw : 5160 ≤ length w) where
+    abbrev rows : ℕ
+    rows = r .rows
+
+    image-wide : held (unfinishedImage p s r) (part (rows * 12) e) (part (rows * 6) w) rows (r .generators) (s .generators) ≡ wide image
+    unfolding wide rounded raw view
+    image-wide = λ k. record {
+      dimension = p .rows;
+      identifiers = tab (s .factors) (λ i. getD (s .identifiers) i 0);
+      centre = d .centre k;
+      terms = (rows-part e w rows ∙ d .terms) k;
+      generators = generators-wide k;
+      radii = d .radii k;
+    }
+      where
+        generators-wide : tab (s .generators) (numberRow (r .generators)) ≡ map wideVector (image .generators)
+        generators-wide =
+            ap₂ (λ (n : ℕ) (g : List ℤ). tab n (numberRow g)) (sym generators-many) (d .generators)
+            ∙ vector-rows (image .generators) (omega (arith, generators-many, few .generators))
+
+    -- what finishing the rows asks
+    pub image-finishable : Finishable (unfinishedImage p s r) (part (rows * 12) e) (part (rows * 6) w) rows (r .generators) (s .generators)
+    image-finishable =
+        let inside = d .inside in
+        let exponents : length (part (rows * 12) e) ≡ rows * 12 - 0 = length-take-le (rows * 12 - 0) e (omega arith) in
+        let numbers : length (part (rows * 6) w) ≡ rows * 6 - 0 = length-take-le (rows * 6 - 0) w (omega arith) in
+        let vectors : length (r .generators) ≡ 144 = ap length (d .generators) ∙ length-tab 144 _ in
+        record {
+          rows-few = inside;
+          exponents-long = omega arith;
+          exponents-few = omega arith;
+          numbers-long = omega arith;
+          generators-few = omega (arith, few .generators);
+          generators-long = omega (arith, few .generators);
+          numbers-small = part-small imageLimit (rows * 6) w (omega arith) (d .small-terms);
+          generators-small = d .small-generators;
+          centre-small = d .small-centre;
+          radii-small = record { under = λ i. d .small-radii .below i };
+          widened = record { source = image; is = image-wide; narrow = image-narrow };
+        }
+
+    -- finished, they are the step
+    pub image-step : {f : Finished} → f ≡ finishedAs (finish standardWeights maxTerms maxGenerators
+        (held (unfinishedImage p s r) (part (rows * 12) e) (part (rows * 6) w) rows (r .generators) (s .generators)))
+        → f ≡ finishedAs (step standardWeights p (view s))
+    unfolding step
+    image-step q = finished-held standardWeights maxTerms maxGenerators image image-narrow image-wide q
+
+-- ---- places of the slices that no image uses
+module _ {p : Step} {s : PolyZonotope} {e₀ e : List ℕ} {w₀ w : List ℤ} {r : Image} (d : Imaged p s e₀ w₀ r e w) where
+  pub numbers-kept : Kept (pos 0) workNumbers w₀ w
+  numbers-kept = let inside = d .inside in record { place = λ x h. d .later-numbers .place x (omega arith) }
+
+  pub exponents-kept : Kept 0 workExponents e₀ e
+  exponents-kept = let inside = d .inside in record { place = λ x h. d .later-exponents .place x (omega arith) }

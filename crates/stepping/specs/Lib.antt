@@ -1,0 +1,9 @@
+-- The image of an accepted set under an accepted step, finished.
+--     Work       the work space of a step
+--     Cleared    a slice whose first places are written anew
+--     Arguments  the causes that refuse a step's own numbers
+--     Held       the rounded image in rows is a set in wide form, with numbers for which nothing overflows
+pub mod Work
+pub mod Cleared
+pub mod Arguments
+pub mod Held

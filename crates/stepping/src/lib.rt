@@ -1,0 +1,99 @@
+// Under the call that gives a step: the image of an accepted set under an accepted step, rounded and finished; the tests of a step's own
+// numbers; the work slices cleared.
+ghost use mathlib.Core.Path.{_≡_};
+ghost use Prim.Native.Nat.{_≤_};
+ghost use lib.IntN.{pos};
+ghost use lib.ListN.{length};
+ghost use Rattle.model.specs.Limits.{standardWeights};
+ghost use Rattle.model.specs.Step.{step};
+ghost use Rattle.model.specs.Finish.{finish};
+ghost use Rattle.zonotope.specs.Record.{view};
+ghost use Rattle.raw.specs.Append.{Kept};
+ghost use Rattle.image.specs.StepAccepted.{StepAccepted, stepOf};
+ghost use Rattle.finish.specs.Held.{held, finishedAs};
+ghost use Rattle.answers.specs.Accepted.{Accepted};
+ghost use Rattle.answers.specs.Finishing.{Finishable};
+ghost use Rattle.stepping.specs.Work.{workNumbers, workExponents};
+use finish::Finished;
+use finish::Unfinished;
+use zonotope::PolyZonotope;
+
+pub mod arguments;
+pub mod work;
+
+// How many places of its work slices a step needs.
+pub const WORK_NUMBERS: usize = 5160;
+
+pub const WORK_EXPONENTS: usize = 10320;
+
+// The image of s, finished with the limits of a set. It is made in the first places of w and e.
+pub fn image_finished(
+    s: PolyZonotope,
+    m: usize,
+    n: usize,
+    c: &[i32],
+    a: &[i32],
+    q: &[i32],
+    w: &mut [i64],
+    e: &mut [u8],
+) -> Finished
+    requires { ⌜ Accepted s × StepAccepted (stepOf m n (now c) (now a) (now q))
+        × (workNumbers ≤ length (now w)) × (workExponents ≤ length (now e)) ⌝ }
+    ensures { λ r. ⌜ r ≡ finishedAs (step standardWeights (stepOf m n (now (c .entry)) (now (a .entry)) (now (q .entry))) (view s)) ⌝ }
+    ensures numbers { λ r. ⌜ Kept (pos 0) workNumbers (now (w .entry)) (now (w .exit)) ⌝ }
+    ensures exponents { λ r. ⌜ Kept 0 workExponents (now (e .entry)) (now (e .exit)) ⌝ }
+{
+    let image = image::of_step(m, n, c, a, q, s, w, e);
+    let rows = image.rows;
+    let identifiers = s.identifiers;
+    let centre = image.centre;
+    let radii = image.radii;
+    let u = Unfinished {
+        dimension: m,
+        factors: s.factors,
+        identifiers,
+        centre,
+        radii,
+    };
+    let mut g = image.generators;
+    finish_rows(
+        u,
+        &e[0..rows * 12],
+        &w[0..rows * 6],
+        rows,
+        &mut g,
+        s.generators,
+    )
+}
+
+// The result with the rows of e and c as its terms and the first rows of g as its generators, finished.
+fn finish_rows(
+    u: Unfinished,
+    e: &[u8],
+    c: &[i64],
+    rows: usize,
+    g: &mut [i64],
+    generators: usize,
+) -> Finished
+    requires { ⌜ Finishable u (now e) (now c) rows (now g) generators ⌝ }
+    ensures { λ r. ⌜ r ≡ finishedAs (finish standardWeights 40 24
+        (held u (now (e .entry)) (now (c .entry)) rows (now (g .entry)) generators)) ⌝ }
+{
+    let mut places = [0u16; 860];
+    let mut heads = [0u16; 860];
+    let mut sums = [0i64; 5160];
+    let weights = [4u64, 1, 4, 1, 4, 1];
+    finish::finish(
+        u,
+        e,
+        c,
+        &mut places[0..rows],
+        &mut heads[0..rows],
+        &mut sums,
+        g,
+        generators,
+        zonotope::MAX_TERMS,
+        zonotope::MAX_GENERATORS,
+        weights,
+    )
+}
