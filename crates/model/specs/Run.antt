@@ -139,11 +139,14 @@ answers place st (f ∷ fs) = answer place st f ∷ answers (place + length f) (
 abbrev pub fieldLength : List ℕ → ℕ
 fieldLength f = 3 + bodyLength f
 
+-- the first field of an input
+abbrev pub firstField : List ℕ → List ℕ
+firstField input = take (fieldLength input) input
+
 unfoldable pub fieldsWithin : ℕ → List ℕ → List (List ℕ)
 fieldsWithin zero input = []
 fieldsWithin (suc n) [] = []
-fieldsWithin (suc n) (t ∷ rest) =
-    let input = t ∷ rest in take (fieldLength input) input ∷ fieldsWithin n (drop (fieldLength input) input)
+fieldsWithin (suc n) (t ∷ rest) = let input = t ∷ rest in firstField input ∷ fieldsWithin n (drop (fieldLength input) input)
 
 unfoldable pub fields : List ℕ → List (List ℕ)
 fields [] = [] ∷ []

@@ -1,0 +1,86 @@
+-- An answer accepts its field exactly where the definitions do, and what its case tells of the outcome.
+use mathlib.Core.Path.{_≡_, refl, sym, _∙_, ap, subst}
+use mathlib.Core.List.{List, [], _∷_}
+use mathlib.Core.Option.{Option, none, some}
+use mathlib.Core.Bool.{Bool, true, false, cond, _||_, true≢false}
+use Prim.Native.Nat.{ℕ, zero, suc, _≤_}
+use native.Mathlib.Omega.{arith}
+use borrow.Author.Tests.{ltb-false, eqb-true, not-false}
+use lib.Dec.{T, ltb, eqb}
+use Rattle.whole.specs.Tests.{or-left, or-right}
+use Rattle.model.specs.Set.{Zonotope}
+use Rattle.model.specs.Operations.{safe}
+use Rattle.model.specs.Body.{givenHalfspaces}
+use Rattle.model.specs.Field as Model
+use Rattle.model.specs.Field.{Kind, start, step, disturbance, independent, tied, reduction, check, unknown, inside, verdict, refused, skipped, meaning}
+use Rattle.model.specs.Run as Run
+use Rattle.model.specs.Run.{tag, body, kindOf, misplaced, cut, current, meant, refusal, accepted, outcome}
+use Rattle.model.proofs.Accepted.{no-refusal}
+use Rattle.run.specs.declared.Outcome.{Outcome}
+use Rattle.run.specs.declared.Outcome.the-variants.{Inside, Safe}
+use Rattle.run.specs.Answer.{outcomeOf, boxOf, accepts}
+
+-- ---- a field that is accepted has a kind
+known-tag : (t : ℕ) → 1 ≤ t → t ≤ 7 → kindOf t ≡ unknown → ⊥
+unfolding kindOf
+known-tag zero l h e = omega arith
+known-tag (suc zero) l h e = let z : _≡_ {A = ℕ} 0 1 = cc in omega arith
+known-tag (suc (suc zero)) l h e = let z : _≡_ {A = ℕ} 0 1 = cc in omega arith
+known-tag (suc (suc (suc zero))) l h e = let z : _≡_ {A = ℕ} 0 1 = cc in omega arith
+known-tag (suc (suc (suc (suc zero)))) l h e = let z : _≡_ {A = ℕ} 0 1 = cc in omega arith
+known-tag (suc (suc (suc (suc (suc zero))))) l h e = let z : _≡_ {A = ℕ} 0 1 = cc in omega arith
+known-tag (suc (suc (suc (suc (suc (suc zero)))))) l h e = let z : _≡_ {A = ℕ} 0 1 = cc in omega arith
+known-tag (suc (suc (suc (suc (suc (suc (suc zero))))))) l h e = let z : _≡_ {A = ℕ} 0 1 = cc in omega arith
+known-tag (suc (suc (suc (suc (suc (suc (suc (suc t)))))))) l h e = omega arith
+
+pub known : (count : ℕ) (f : List ℕ) → misplaced count f ≡ false → cut f ≡ false → kindOf (tag f) ≡ unknown → ⊥
+unfolding misplaced cut
+known count [] p q e = true≢false q
+known zero (t ∷ f) p q e = let h = eqb-true t 1 (not-false _ p) in known-tag t (omega arith) (omega arith) e
+known (suc n) (t ∷ f) p q e =
+    let a = ltb-false t 2 (or-left (ltb t 2) (ltb 7 t) p) in let b = ltb-false 7 t (or-right (ltb t 2) (ltb 7 t) p) in
+    known-tag t (omega arith) b e
+
+-- ---- what is answered where no cause holds
+answered : (k : Kind) (b : List ℕ) (next : ℕ) (s : Zonotope) → (k ≡ unknown → ⊥) → accepts (outcomeOf (meaning k b next s .outcome)) ≡ true
+unfolding meaning
+answered start b next s h = refl
+answered step b next s h = refl
+answered disturbance b next s h = refl
+answered independent b next s h = refl
+answered tied b next s h = refl
+answered reduction b next s h = refl
+answered check b next s h = go (safe (givenHalfspaces b) s)
+  where
+    go : (v : Bool) → accepts (outcomeOf (verdict v)) ≡ true
+    go true = refl
+    go false = refl
+answered unknown b next s h = absurd (h refl)
+
+-- An answer accepts its field where the definitions do.
+pub accepts-is : (place : ℕ) (u : Run.State) (f : List ℕ) → accepts (outcomeOf (outcome place u f)) ≡ accepted u f
+unfolding outcome accepted
+accepts-is place u f = go (u .over) (refusal u f) refl refl
+  where
+    go : (b : Bool) (o : Option ℕ) → u .over ≡ b → refusal u f ≡ o
+        → accepts (outcomeOf (cond b skipped (elim o [ none ↦ meant u f .outcome | some n ↦ refused n place ])))
+        ≡ cond b false (elim o [ none ↦ true | some n ↦ false ])
+    go true o p q = refl
+    go false (some n) p q = refl
+    go false none p q = let a = no-refusal u f p q in
+        answered (kindOf (tag f)) (body f) (u .next) (current u) (known (u .count) f (a .placed) (a .whole))
+
+-- ---- what the case of an answer tells of the outcome
+pub inside-is : (o : Model.Outcome) → outcomeOf o ≡ Inside → o ≡ inside (boxOf o)
+inside-is (inside b) e = refl
+inside-is (verdict true) e = let z : _≡_ {A = ℕ} 0 1 = cc in absurd (omega arith)
+inside-is (verdict false) e = let z : _≡_ {A = ℕ} 0 1 = cc in absurd (omega arith)
+inside-is (refused n place) e = let z : _≡_ {A = ℕ} 0 1 = cc in absurd (omega arith)
+inside-is skipped e = let z : _≡_ {A = ℕ} 0 1 = cc in absurd (omega arith)
+
+pub safe-is : (o : Model.Outcome) → outcomeOf o ≡ Safe → o ≡ verdict true
+safe-is (inside b) e = let z : _≡_ {A = ℕ} 0 1 = cc in absurd (omega arith)
+safe-is (verdict true) e = refl
+safe-is (verdict false) e = let z : _≡_ {A = ℕ} 0 1 = cc in absurd (omega arith)
+safe-is (refused n place) e = let z : _≡_ {A = ℕ} 0 1 = cc in absurd (omega arith)
+safe-is skipped e = let z : _≡_ {A = ℕ} 0 1 = cc in absurd (omega arith)

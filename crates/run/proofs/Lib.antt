@@ -1,0 +1,7 @@
+-- What is proved of a run on records.
+--     Reached   the states that calls lead to are those of the definitions, and none of them is refused
+--     Accepts   an answer accepts its field exactly where the definitions do
+--     Enclosed  demand 3 of the records that are returned
+pub mod Reached
+pub mod Accepts
+pub mod Enclosed

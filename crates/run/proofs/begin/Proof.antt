@@ -1,0 +1,18 @@
+-- `run::begin` meets its contract.
+use mathlib.Core.Path.{ap}
+use Rattle.model.specs.Limits.{firstFresh}
+use Rattle.zonotope.specs.declared.PolyZonotope.{PolyZonotope}
+use Rattle.run.specs.declared.State.{State}
+use Rattle.run.proofs.begin.Statement.{statement}
+use Rattle.run.proofs.begin.Tie as tie
+use mathlib.Core.Bool.{false}
+use borrow.Author.Needs.{needs}
+
+empty-requires : tie.Need-empty-requires
+empty-requires c κs = search needs
+
+returns : tie.Need-returns
+returns c = ap (λ (s : PolyZonotope). record { set = s; next = firstFresh; count = 0; over = false }) (c .empty .ensures)
+
+pub begin-spec : {M : Type 1} → statement M
+begin-spec = tie.close (tie.spec empty-requires returns)

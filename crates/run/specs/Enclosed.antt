@@ -1,0 +1,71 @@
+-- Demand 3 of the records that are returned: for every list of fields given to `field` one after the other from `begin()`, every motion, after
+-- each accepted field, is a point of the set in the returned record at its own values and inside the box in the returned answer, and where the
+-- answer says safe not in the unsafe region. The theorem is `enclosed`, in proofs/Enclosed.antt.
+use mathlib.Core.Path.{_≡_}
+use mathlib.Core.List.{List, [], _∷_, map}
+use mathlib.Core.Bool.{Bool, false, cond}
+use Prim.Native.Nat.{ℕ, suc, _<_}
+use lib.Dec.{T}
+use lib.ListN.{getD}
+use lib.IntN.{pos}
+use Rattle.rational.specs.Rational.{ι, 0ℚ, _≤ℚ_}
+use Rattle.model.specs.Limits.{firstFresh}
+use Rattle.model.specs.Body.{dimension, givenHalfspaces}
+use Rattle.model.specs.Run.{tag, body, kindOf, firstField}
+use Rattle.model.specs.Points.{Vector, Point}
+use Rattle.model.specs.Motion.{Picks, Allowed, move, valuesAfter, markAfter, Unsafe}
+use Rattle.zonotope.specs.Record.{view}
+use Rattle.run.specs.declared.State.{State}
+use Rattle.run.specs.declared.Outcome.{Outcome}
+use Rattle.run.specs.declared.Outcome.the-variants.{Inside, Safe}
+use Rattle.run.specs.declared.Answer.{Answer}
+use Rattle.run.specs.declared.Fielded.{Fielded}
+use Rattle.run.specs.State.{beginning}
+use Rattle.run.specs.Answer.{accepts}
+use Rattle.run.specs.Field.{fielded}
+
+-- a motion beside the state that the last call returned; the mark is the motion's own count of the accepted bodies
+pub record Moment : Type 0 where
+  pub state : State
+  pub mark : ℕ
+  pub values : Vector
+  pub position : Vector
+
+-- begun with no set; the position is none until the start set gives one
+abbrev pub begun : Picks → Moment
+begun p = record { state = beginning; mark = firstFresh; values = p .values; position = λ i. 0ℚ }
+
+-- field m, to which the call returned r: an accepted one moves the motion by its body, another leaves it
+unfoldable pub follow : Picks → ℕ → Moment → List ℕ → Fielded → Moment
+follow p m now f r = let k = kindOf (tag f) in let b = body f in let yes = accepts (r .answer .outcome) in record {
+  state = r .state;
+  mark = cond yes (markAfter k b (now .mark)) (now .mark);
+  values = cond yes (valuesAfter k b p m (now .mark) (now .values)) (now .values);
+  position = cond yes (move k b p m (now .position)) (now .position);
+}
+
+-- x is inside the box of an answer, which has two ends for each of n coordinates
+pub record InEnds (n : ℕ) (x : Vector) (a : Answer) : Type 0 where
+  pub sides : a .sides ≡ n
+  pub above : (i : ℕ) → i < n → ι (getD (a .low) i (pos 0)) ≤ℚ x i
+  pub below : (i : ℕ) → i < n → x i ≤ℚ ι (getD (a .high) i (pos 0))
+
+-- what holds after an accepted field f, to which the call returned r
+pub record Kept (f : List ℕ) (r : Fielded) (now : Moment) : Type 0 where
+  -- the motion is a point of the returned set at its own factor values
+  pub in-set : Point (view (r .state .set)) (now .values) (now .position)
+  -- it is inside the box that is answered
+  pub in-box : r .answer .outcome ≡ Inside → InEnds (r .state .set .dimension) (now .position) (r .answer)
+  -- where the answer is safe, it is not in the unsafe region
+  pub not-unsafe : r .answer .outcome ≡ Safe → ¬ (Unsafe (givenHalfspaces (body f)) (dimension (body f)) (now .position))
+
+-- after each accepted field of the inputs, each of which is given to the state that the last call returned; `places` says where each stands
+unfoldable pub Always : Picks → (ℕ → ℕ) → ℕ → Moment → List (List ℕ) → Type 0
+Always p places m now [] = Unit {0}
+Always p places m now (rest ∷ rests) =
+    let f = firstField rest in let r = fielded false (places m) (now .state) rest in let then = follow p m now f r in
+    (T (accepts (r .answer .outcome)) → Kept f r then) × Always p places (suc m) then rests
+
+-- demand 3, for every list of inputs of which the first fields are taken, whatever bytes they hold, and every motion inside its limits
+abbrev pub Enclosed : Type 0
+Enclosed = (rests : List (List ℕ)) (places : ℕ → ℕ) (p : Picks) → Allowed p (map firstField rests) → Always p places 0 (begun p) rests
