@@ -5,7 +5,6 @@ use lib.Dec.{ltb}
 use lib.IntN.{natAbs}
 use mir.Facts.{toZ-ofZ}
 use Rattle.model.specs.Field.{negative}
-use native.Mathlib.Omega.{arith}
 use borrow.Author.Needs.{needs}
 use Rattle.words.proofs.outside.Statement.{statement}
 use Rattle.words.proofs.outside.Tie as tie

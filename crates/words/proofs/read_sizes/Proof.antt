@@ -3,7 +3,6 @@ use mathlib.Core.Path.{refl, sym, _∙_}
 use lib.IntN.{natAbs}
 use Rattle.whole.specs.Tab.{map-tab}
 use Rattle.whole.specs.Write.{write-all}
-use native.Mathlib.Omega.{arith}
 use borrow.Author.Needs.{needs}
 use Rattle.words.proofs.read_sizes.Statement.{statement}
 use Rattle.words.proofs.read_sizes.Tie as tie

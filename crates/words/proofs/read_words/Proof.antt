@@ -2,7 +2,6 @@
 use mathlib.Core.Path.{refl, _∙_}
 use lib.IntN.{pos}
 use Rattle.whole.specs.Write.{write-all}
-use native.Mathlib.Omega.{arith}
 use borrow.Author.Needs.{needs}
 use Rattle.words.proofs.read_words.Statement.{statement}
 use Rattle.words.proofs.read_words.Tie as tie

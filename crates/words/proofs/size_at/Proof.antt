@@ -2,7 +2,6 @@
 use mathlib.Core.Path.{ap, _∙_}
 use lib.IntN.{natAbs}
 use Rattle.whole.specs.Fits.{got32}
-use native.Mathlib.Omega.{arith}
 use borrow.Author.Needs.{needs}
 use Rattle.words.proofs.size_at.Statement.{statement}
 use Rattle.words.proofs.size_at.Tie as tie

@@ -1,5 +1,4 @@
 -- `words::unsigned_at` meets its contract.
-use native.Mathlib.Omega.{arith}
 use borrow.Author.Needs.{needs}
 use Rattle.words.specs.Number.{from-parts}
 use Rattle.words.proofs.unsigned_at.Statement.{statement}
