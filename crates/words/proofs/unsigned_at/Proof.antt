@@ -1,0 +1,38 @@
+-- `words::unsigned_at` meets its contract.
+use borrow.Author.Needs.{needs}
+use Rattle.words.specs.Number.{from-parts}
+use Rattle.words.proofs.unsigned_at.Statement.{statement}
+use Rattle.words.proofs.unsigned_at.Tie as tie
+
+short-at-requires : tie.Need-short-at-requires
+short-at-requires c κs = search needs
+
+add-short-at : tie.Need-add-short-at
+add-short-at c = search needs
+
+short-at-requires-2 : tie.Need-short-at-requires-2
+short-at-requires-2 c κs = search needs
+
+mul-result : tie.Need-mul-result
+mul-result c = search needs
+
+add-result : tie.Need-add-result
+add-result c = search needs
+
+cast-result : tie.Need-cast-result
+cast-result c = search needs
+
+returns : tie.Need-returns
+returns c = from-parts 2 2 _ _ (c .before .short-at .ensures .0) (c .short-at2 .ensures .0)
+
+pub unsigned-at-spec : {M : Type 1} → statement M
+unsigned-at-spec =
+    tie.close
+    (tie.spec
+    short-at-requires
+    add-short-at
+    short-at-requires-2
+    mul-result
+    add-result
+    cast-result
+    returns)
