@@ -1,7 +1,7 @@
 -- What a call answers: the changed set, or a refusal with the first set as it came.
 use mathlib.Core.Path.{_≡_, refl, sym, ap, _∙_}
 use mathlib.Core.Option.{Option, none, some}
-use mathlib.Core.Bool.{Bool, true, false, true≢false}
+use mathlib.Core.Bool.{Bool, true, false, cond, true≢false}
 use Prim.Native.Nat.{ℕ}
 use Rattle.model.specs.Set.{Zonotope}
 use Rattle.model.specs.Run.{_if_, firstOf}
@@ -11,6 +11,7 @@ use Rattle.zonotope.specs.declared.Examined.{Examined}
 use Rattle.zonotope.specs.declared.Examined.the-variants.{Accepted, Refused}
 use Rattle.zonotope.specs.Record.{pack}
 use Rattle.zonotope.specs.Answer.{examined, accepted, orElse}
+use Rattle.finish.specs.declared.Finished.{Finished}
 use Rattle.answers.specs.declared.Changed.{Changed}
 use mathlib.Core.List.{[], _∷_}
 
@@ -18,6 +19,10 @@ use mathlib.Core.List.{[], _∷_}
 abbrev pub answered : Option ℕ → PolyZonotope → Zonotope → Changed
 answered none s m = record { outcome = Accepted; set = pack m }
 answered (some n) s m = record { outcome = Refused n; set = s }
+
+-- the finished set where it is not too wide; else 10, with the set s as it came
+abbrev pub settled : PolyZonotope → Finished → Changed
+settled s f = cond (f .narrow) (record { outcome = Accepted; set = f .set }) (record { outcome = Refused 10; set = s })
 
 -- 10: the result is too wide
 abbrev pub ofResult : Zonotope → Option ℕ

@@ -1,7 +1,7 @@
 -- What finishing asks of a result in rows, and the answer for what it gives.
 use mathlib.Core.Path.{_≡_, refl, sym, ap, ap₂, subst, _∙_}
-use mathlib.Core.List.{List}
-use mathlib.Core.Bool.{Bool, true, false, cond, true≢false}
+use mathlib.Core.List.{List, [], _∷_}
+use mathlib.Core.Bool.{Bool, true, false, cond}
 use Prim.Native.Nat.{ℕ, zero, suc, _-_, _*_, _^_, _≤_}
 use native.Mathlib.Omega.{arith}
 use lib.ListN.{length, getD, take, replicate, length-replicate}
@@ -12,9 +12,8 @@ use Rattle.model.specs.Set.{Zonotope}
 use Rattle.model.specs.Valid.{tooWide}
 use Rattle.model.specs.Finish.{finish}
 use Rattle.model.specs.Limits.{standardWeights}
-use Rattle.model.specs.Run.{noSet}
+use Rattle.model.specs.Run.{_if_, firstOf, noSet}
 use Rattle.zonotope.specs.declared.PolyZonotope.{PolyZonotope}
-use Rattle.zonotope.specs.declared.Examined.the-variants.{Accepted, Refused}
 use Rattle.zonotope.specs.Record.{pack}
 use Rattle.rows.specs.Rows.{Small}
 use Rattle.fold.specs.Marks.{same-at}
@@ -26,7 +25,7 @@ use Rattle.finish.specs.Wide.{wide}
 use Rattle.finish.specs.WideFinish.{Narrow}
 use Rattle.finish.specs.WideRecord.{finish-pack, finish-tooWide}
 use Rattle.answers.specs.declared.Changed.{Changed}
-use Rattle.answers.specs.Answer.{answered, ofResult, answer-wide, answer-narrow}
+use Rattle.answers.specs.Answer.{answered, settled, ofResult}
 
 -- a result in `rows` rows of e and c and the first rows of g: a set in wide form, with numbers for which nothing overflows
 pub record Finishable (u : Unfinished) (e : List ℕ) (c : List ℤ) (rows : ℕ) (g : List ℤ) (generators : ℕ) : Type 0 where
@@ -43,26 +42,23 @@ pub record Finishable (u : Unfinished) (e : List ℕ) (c : List ℤ) (rows : ℕ
   pub widened : Widened (held u e c rows g generators)
 
 -- ---- the answer for a finished result
--- the answer for a result by whether it is too wide, and its record
+-- what finishing gives by whether the result is too wide, and its record
 abbrev finishedBy : Bool → PolyZonotope → Finished
 finishedBy w r = cond w (record { narrow = false; set = pack noSet }) (record { narrow = true; set = r })
 
-module _ (f : Finished) (s : PolyZonotope) (m : Zonotope) (from : f ≡ finishedAs m) where
-  pub settle-narrow : f .narrow ≡ true → _≡_ {A = Changed} (record { outcome = Accepted; set = f .set }) (answered (ofResult m) s m)
-  settle-narrow h = go (tooWide m) refl from
+module _ (s : PolyZonotope) (m : Zonotope) where
+  -- settled, a result is answered by whether it is too wide
+  pub settled-as : settled s (finishedAs m) ≡ answered (ofResult m) s m
+  unfolding firstOf
+  settled-as = go (tooWide m)
     where
-      go : (w : Bool) → tooWide m ≡ w → f ≡ finishedBy w (pack m)
-          → _≡_ {A = Changed} (record { outcome = Accepted; set = f .set }) (answered (ofResult m) s m)
-      go true e q = absurd (true≢false (sym h ∙ ap (λ (x : Finished). x .narrow) q))
-      go false e q = answer-narrow s m (f .set) (ap (λ (x : Finished). x .set) q) e
+      go : (w : Bool) → settled s (finishedBy w (pack m)) ≡ answered (firstOf ((10 if w) ∷ [])) s m
+      go true = refl
+      go false = refl
 
-  pub settle-wide : f .narrow ≡ false → _≡_ {A = Changed} (record { outcome = Refused 10; set = s }) (answered (ofResult m) s m)
-  settle-wide h = go (tooWide m) refl from
-    where
-      go : (w : Bool) → tooWide m ≡ w → f ≡ finishedBy w (pack m)
-          → _≡_ {A = Changed} (record { outcome = Refused 10; set = s }) (answered (ofResult m) s m)
-      go true e q = answer-wide s m e
-      go false e q = absurd (true≢false (sym (ap (λ (x : Finished). x .narrow) q) ∙ h))
+  -- so is what finishing gave
+  pub settled-result : {f : Finished} {r : Changed} → r ≡ settled s f → f ≡ finishedAs m → r ≡ answered (ofResult m) s m
+  settled-result p e = p ∙ ap (settled s) e ∙ settled-as
 
 -- ---- a set in wide form and the set itself are answered alike
 pub finished-wide : (weights : List ℕ) (h q : ℕ) (s : Zonotope) → Narrow s

@@ -1,8 +1,6 @@
 // What a call that changes a set answers: the changed set, or a refusal with the first set as it came.
 ghost use mathlib.Core.Path.{_≡_};
-ghost use Rattle.model.specs.Set.{Zonotope};
-ghost use Rattle.finish.specs.Held.{finishedAs};
-ghost use Rattle.answers.specs.Answer.{answered, ofResult, isRefused};
+ghost use Rattle.answers.specs.Answer.{settled, isRefused};
 use finish::Finished;
 use zonotope::Examined;
 use zonotope::PolyZonotope;
@@ -15,7 +13,7 @@ pub struct Changed {
 
 // The answer for a finished result: 10 where it is too wide, with the first set as it came.
 pub fn settle(first: PolyZonotope, f: Finished) -> Changed
-    ensures { λ r. ⌜ ((m : Zonotope) → f ≡ finishedAs m → r ≡ answered (ofResult m) first m) ⌝ }
+    ensures { λ r. ⌜ r ≡ settled first f ⌝ }
 {
     if f.narrow {
         let set = f.set;

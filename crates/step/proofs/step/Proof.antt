@@ -12,6 +12,7 @@ use Rattle.model.specs.Library.{Given, stepRefusal}
 use Rattle.zonotope.specs.Record.{view, given}
 use Rattle.image.specs.StepAccepted.{stepOf}
 use Rattle.answers.specs.Answer.{ofResult, isRefused, accepting, none-refuses, answer-refused, answer-next}
+use Rattle.answers.specs.Finishing.{settled-result}
 use Rattle.stepping.specs.Work.{workNumbers, workExponents}
 use Rattle.step.specs.Answer.{noRoom}
 use Rattle.step.specs.Order.{beforeStepping, step-order, not-worked, was-worked, Acceptable, acceptable}
@@ -92,7 +93,7 @@ returns-2 c =
     let number = stepRefusal (short s) (asked s) (read s) in
     let done = was-worked (short s) (asked s) (read s) (x .0) (passes i) in (
       answer-next (beforeStepping (short s) (asked s) (read s)) (ofResult (result s)) (x .0) (step-order (short s) (asked s) (read s))
-          (s .args .s) (result s) (passes i) (c .settle .ensures (result s) (f .image-finished .ensures .0)),
+          (s .args .s) (result s) (passes i) (settled-result (s .args .s) (result s) (c .settle .ensures) (f .image-finished .ensures .0)),
       (
         left-cleared (pos 0) workNumbers (s .args .w .now) number done (f .image-finished .ensures .1 .0) (omega (arith, f .image-finished .kept))
             (n .clear-numbers .ensures),

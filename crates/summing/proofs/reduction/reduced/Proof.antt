@@ -1,4 +1,5 @@
 -- `reduction::reduced` meets its contract.
+use Rattle.answers.specs.Finishing.{settled-result}
 use borrow.Author.Needs.{needs}
 use Rattle.summing.proofs.reduction.reduced.Statement.{statement}
 use Rattle.summing.proofs.reduction.reduced.Tie as tie
@@ -10,7 +11,7 @@ settle-requires : tie.Need-settle-requires
 settle-requires c κs = search needs
 
 returns : tie.Need-returns
-returns c = c .settle .ensures _ (c .before .finished .ensures)
+returns c = settled-result _ _ (c .settle .ensures) (c .before .finished .ensures)
 
 pub reduced-spec : {M : Type 1} → statement M
 reduced-spec = tie.close (tie.spec finished-requires settle-requires returns)

@@ -4,6 +4,7 @@ use Rattle.model.specs.Limits.{standardWeights}
 use Rattle.model.specs.Operations.{renumbered, independentSum}
 use Rattle.zonotope.specs.Record.{view}
 use Rattle.answers.specs.Answer.{ofResult}
+use Rattle.answers.specs.Finishing.{settled-result}
 use Rattle.summing.specs.Summand.{for-sum}
 use Rattle.summing.specs.Summable.{answer-many, answer-few}
 use Rattle.summing.specs.Summed.{factors-many, factors-common}
@@ -48,7 +49,7 @@ returns-2 c =
     let m = independentSum standardWeights (a .next) (view (a .first)) (view (a .second)) in
     answer-few (view (a .first)) u (ofResult m) (a .first) m
     (sym (factors-many (view (a .first)) u (t .independent-identifiers .ensures)) ∙ sym (i .before .too-many .ensures) ∙ i .if1 .left)
-    (c .settle .ensures m (c .before .independent-finished .ensures))
+    (settled-result (a .first) m (c .settle .ensures) (c .before .independent-finished .ensures))
 
 pub independent-spec : {M : Type 1} → statement M
 independent-spec =

@@ -4,6 +4,7 @@ use Rattle.model.specs.Limits.{standardWeights}
 use Rattle.model.specs.Operations.{tiedSum}
 use Rattle.zonotope.specs.Record.{view}
 use Rattle.answers.specs.Answer.{ofResult}
+use Rattle.answers.specs.Finishing.{settled-result}
 use Rattle.summing.specs.Summand.{for-sum}
 use Rattle.summing.specs.Summable.{answer-many, answer-few}
 use Rattle.summing.specs.Summed.{factors-many, factors-common}
@@ -47,7 +48,7 @@ returns-2 c =
     answer-few (view (a .first)) (view (a .second)) (ofResult m) (a .first) m
     (sym (factors-many (view (a .first)) (view (a .second)) (t .tied-identifiers .ensures)) ∙ sym (i .before .too-many .ensures)
     ∙ i .if1 .left)
-    (c .settle .ensures m (c .before .tied-finished .ensures))
+    (settled-result (a .first) m (c .settle .ensures) (c .before .tied-finished .ensures))
 
 pub tied-spec : {M : Type 1} → statement M
 tied-spec =
