@@ -1,0 +1,83 @@
+-- Fields whose body is a set: their causes in parts, in the order in which they are asked.
+use mathlib.Core.Path.{_≡_, refl, sym, _∙_, ap, ap₂}
+use mathlib.Core.List.{List, [], _∷_, _++_}
+use mathlib.Core.Option.{Option, none, some}
+use mathlib.Core.Bool.{Bool, true, false, not, cond, _||_}
+use Prim.Native.Nat.{ℕ, _≤_}
+use native.Mathlib.Omega.{arith}
+use borrow.Author.Tests.{ltb-false, le-ltb, eqb-true, not-false}
+use lib.Dec.{ltb, eqb}
+use lib.ListN.{length}
+use Rattle.whole.specs.Tab.{tab, any}
+use Rattle.whole.specs.Tests.{or-left, or-right}
+use Rattle.model.specs.Limits.{fileIdentifiers, recordIdentifiers, standardWeights}
+use Rattle.model.specs.Set.{Zonotope}
+use Rattle.model.specs.Valid.{badCounts, badRange, badOrder, tooWide}
+use Rattle.model.specs.Operations.{tiedSum, independentSum, renumbered}
+use Rattle.model.specs.Body.{dimension, setLength, radiusWords, givenSet}
+use Rattle.model.specs.Field.{start, tied, independent, meaning, differs, negative, tooMany}
+use Rattle.model.specs.Run.{Cause, _if_, firstOf}
+use Rattle.model.specs.Library.{Given, ofFirst, examine}
+use Rattle.zonotope.specs.declared.PolyZonotope.{PolyZonotope}
+use Rattle.zonotope.specs.declared.Examined.{Examined}
+use Rattle.zonotope.specs.declared.Examined.the-variants.{Refused}
+use Rattle.zonotope.specs.Record.{view, pack, given}
+use Rattle.zonotope.specs.Answer.{examined, orElse, first-append}
+use Rattle.answers.specs.Answer.{ofResult}
+use Rattle.summing.specs.Summable.{ofFactors}
+use Rattle.bodies.specs.Set.{setCountsOut, SetBody}
+use Rattle.bodies.specs.Given.{given-record}
+use Rattle.fields.specs.Refusal.{bodyRefusal}
+
+module _ (b : List ℕ) where
+  -- the body is as long as its counts say: 3, 4, 3
+  abbrev pub ofLayout : List Cause
+  ofLayout = (3 if ltb (length b) 4) ∷ (4 if setCountsOut b) ∷ (3 if not (eqb (length b) (setLength b))) ∷ []
+
+  -- 6: an identifier, exponent or radius is out of range
+  abbrev pub outOfRange : Bool
+  outOfRange = badRange fileIdentifiers (givenSet b) || any negative (radiusWords b)
+
+  -- the set itself: 6, 7, 8
+  abbrev pub ofContents : List Cause
+  ofContents = (6 if outOfRange) ∷ (7 if badOrder (givenSet b)) ∷ (8 if tooWide (givenSet b)) ∷ []
+
+-- the set of a sum in n coordinates: 5 stands between the two
+abbrev pub ofSummand : ℕ → List ℕ → List Cause
+ofSummand n b = ofLayout b ++ ((5 if differs (dimension b) n) ∷ ofContents b)
+
+-- ---- the layout
+pub set-body : (b : List ℕ) → firstOf (ofLayout b) ≡ none → SetBody b
+unfolding firstOf
+set-body b e = go (ltb (length b) 4) (setCountsOut b) (eqb (length b) (setLength b)) refl refl e
+  where
+    go : (x y z : Bool) → setCountsOut b ≡ y → eqb (length b) (setLength b) ≡ z
+        → cond x (some 3) (cond y (some 4) (cond (not z) (some 3) none)) ≡ none → SetBody b
+    go true y z p q e = let n : _≡_ {A = ℕ} 0 1 = cc in absurd (omega arith)
+    go false true z p q e = let n : _≡_ {A = ℕ} 0 1 = cc in absurd (omega arith)
+    go false false false p q e = let n : _≡_ {A = ℕ} 0 1 = cc in absurd (omega arith)
+    go false false true p q e = record { counts = p; long = eqb-true _ _ q }
+
+-- ---- the contents
+-- identifiers of a file are in a record's range
+in-file : (l : List ℕ) → any (ltb fileIdentifiers) l ≡ false
+    → any (λ k. eqb k 0 || ltb recordIdentifiers k) l ≡ any (λ k. eqb k 0 || ltb fileIdentifiers k) l
+unfolding any
+in-file [] e = refl
+in-file (k ∷ l) e =
+    let f = or-left (ltb fileIdentifiers k) (any (ltb fileIdentifiers) l) e in
+    let h = ltb-false fileIdentifiers k f in
+    let g = le-ltb recordIdentifiers k (omega arith) in
+    ap₂ (λ x y. (eqb k 0 || x) || y) (g ∙ sym f) (in-file l (or-right (ltb fileIdentifiers k) (any (ltb fileIdentifiers) l) e))
+
+-- an identifier beyond a file's is out of its range
+beyond-out : (l : List ℕ) → any (ltb fileIdentifiers) l ≡ true → any (λ k. eqb k 0 || ltb fileIdentifiers k) l ≡ true
+unfolding any
+beyond-out [] e = e
+beyond-out (k ∷ l) e = go (eqb k 0) (ltb fileIdentifiers k) (any (ltb fileIdentifiers) l) (beyond-out l) e
+  where
+    go : (x y z : Bool) → (z ≡ true → any (λ k. eqb k 0 || ltb fileIdentifiers k) l ≡ true) → (y || z) ≡ true
+        → ((x || y) || any (λ k. eqb k 0 || ltb fileIdentifiers k) l) ≡ true
+    go true y z h e = refl
+    go false true z h e = refl
+    go false false z h e = h e

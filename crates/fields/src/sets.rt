@@ -1,0 +1,149 @@
+// Fields whose body is a set: the start set and the sums.
+ghost use mathlib.Core.Path.{_≡_};
+ghost use Prim.Native.Nat.{_≤_};
+ghost use lib.Dec.{ltb};
+ghost use lib.ListN.{getD};
+ghost use Rattle.whole.specs.Tab.{tab, any};
+ghost use Rattle.model.specs.Limits.{fileIdentifiers};
+ghost use Rattle.model.specs.Body.{givenSet};
+ghost use Rattle.model.specs.Field.{start, tied, independent};
+ghost use Rattle.model.specs.Run.{noSet, firstOf};
+ghost use Rattle.zonotope.specs.Record.{view, pack};
+ghost use Rattle.zonotope.specs.Answer.{examined};
+ghost use Rattle.answers.specs.Answer.{answered};
+ghost use Rattle.answers.specs.Accepted.{Accepted};
+ghost use Rattle.summing.specs.Summable.{Next};
+ghost use Rattle.bodies.specs.Set.{SetBody};
+ghost use Rattle.fields.specs.Refusal.{bodyRefusal, resultOf};
+ghost use Rattle.fields.specs.Sets.{ofLayout, ofContents, ofSummand};
+use answers::Changed;
+use zonotope::Examined;
+use zonotope::PolyZonotope;
+
+// The largest identifier in a file.
+const FILE_IDENTIFIERS: u32 = 65535;
+
+// A start set: the set itself, or a refusal with the record of no set.
+pub fn start(body: &[u8]) -> Changed
+    ensures { λ r. ⌜ r ≡ answered (bodyRefusal start (now (body .entry)) 0 noSet) (pack noSet) (resultOf start (now (body .entry)) 0 noSet) ⌝ }
+{
+    let o = of_layout(body);
+    if answers::is_refused(o) {
+        let set = zonotope::empty();
+        return Changed { outcome: o, set };
+    }
+    read(body)
+}
+
+// A tied sum with the body's set.
+pub fn tied(first: PolyZonotope, body: &[u8]) -> Changed
+    requires { ⌜ Accepted first ⌝ }
+    ensures { λ r. ⌜ r ≡ answered (bodyRefusal tied (now (body .entry)) 0 (view first)) first
+        (resultOf tied (now (body .entry)) 0 (view first)) ⌝ }
+{
+    let g = summand(first.dimension, body);
+    let o = g.outcome;
+    if answers::is_refused(o) {
+        return Changed {
+            outcome: o,
+            set: first,
+        };
+    }
+    let second = g.set;
+    summing::sum::tied(first, second)
+}
+
+// An independent sum with the body's set, whose factors are numbered from `next` on.
+pub fn independent(first: PolyZonotope, next: u32, body: &[u8]) -> Changed
+    requires { ⌜ Accepted first × Next next ⌝ }
+    ensures { λ r. ⌜ r ≡ answered (bodyRefusal independent (now (body .entry)) next (view first)) first
+        (resultOf independent (now (body .entry)) next (view first)) ⌝ }
+{
+    let g = summand(first.dimension, body);
+    let o = g.outcome;
+    if answers::is_refused(o) {
+        return Changed {
+            outcome: o,
+            set: first,
+        };
+    }
+    let second = g.set;
+    summing::sum::independent(first, second, next)
+}
+
+// The set in the body of a sum, for n coordinates: 3, 4, 3, 5, 6, 7, 8.
+fn summand(n: usize, body: &[u8]) -> Changed
+    ensures { λ r. ⌜ r ≡ answered (firstOf (ofSummand n (now (body .entry)))) (pack noSet) (givenSet (now (body .entry))) ⌝ }
+{
+    let o = of_layout(body);
+    if answers::is_refused(o) {
+        let set = zonotope::empty();
+        return Changed { outcome: o, set };
+    }
+    if words::byte_at(body, 0) != n {
+        let set = zonotope::empty();
+        return Changed {
+            outcome: Examined::Refused(5),
+            set,
+        };
+    }
+    read(body)
+}
+
+// The set that a body of the right length gives: 6, 7, 8.
+fn read(body: &[u8]) -> Changed
+    requires { ⌜ SetBody (now body) ⌝ }
+    ensures { λ r. ⌜ r ≡ answered (firstOf (ofContents (now (body .entry)))) (pack noSet) (givenSet (now (body .entry))) ⌝ }
+{
+    let s = bodies::set(body);
+    let o = of_contents(s, body);
+    if answers::is_refused(o) {
+        let set = zonotope::empty();
+        return Changed { outcome: o, set };
+    }
+    Changed {
+        outcome: Examined::Accepted,
+        set: s,
+    }
+}
+
+// Whether the body is as long as the counts of its set say: 3, 4, 3.
+fn of_layout(body: &[u8]) -> Examined
+    ensures { λ r. ⌜ r ≡ examined (firstOf (ofLayout (now (body .entry)))) ⌝ }
+{
+    if body.len() < 4 {
+        return Examined::Refused(3);
+    }
+    if bodies::set_counts_out(body) {
+        return Examined::Refused(4);
+    }
+    if body.len() != bodies::set_length(body) {
+        return Examined::Refused(3);
+    }
+    Examined::Accepted
+}
+
+// Whether s, which the body gives, is a set of a file: 6, 7, 8.
+fn of_contents(s: PolyZonotope, body: &[u8]) -> Examined
+    requires { ⌜ SetBody (now body) × (s ≡ pack (givenSet (now body))) ⌝ }
+    ensures { λ r. ⌜ r ≡ examined (firstOf (ofContents (now (body .entry)))) ⌝ }
+{
+    let p = s.factors;
+    if any_beyond(&s.identifiers, p) | bodies::negative_radius(body) {
+        return Examined::Refused(6);
+    }
+    zonotope::examine(s)
+}
+
+// Whether one of the first p identifiers is none of a file.
+fn any_beyond(ids: &[u32; 12], p: usize) -> bool
+    requires { ⌜ p ≤ 12 ⌝ }
+    ensures { λ r. ⌜ r ≡ any (ltb fileIdentifiers) (tab p (λ i. getD (now (ids .entry)) i 0)) ⌝ }
+{
+    for i in 0..p {
+        if FILE_IDENTIFIERS < ids[i] {
+            return true;
+        }
+    }
+    false
+}
