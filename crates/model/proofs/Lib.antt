@@ -18,6 +18,7 @@
 --     OldFault                             with a next identifier that doesn't rise, demand 3 is false
 pub mod Marked
 pub mod Listing
+pub mod Printed
 pub mod PairTable
 pub mod Vectors
 pub mod Order
