@@ -36,3 +36,14 @@ unfolding printed linesFrom closing outcomeLine endLine boxLine verdictLine ends
     collectInto those foldAll foldVector shift growth foldTimes foldSmallest smallest size keepAt longer even half halfSize box lowEnd
     highEnd least lowAlong safe
 listing-printed = (refl, refl, refl)
+
+-- an empty input, a lone unknown tag, a start set that is followed by one, and by a field that is cut short
+pub refusals-printed :
+    (printed [] ≡ ascii "0 refused 1 0\n")
+    × (printed (9 ∷ []) ≡ ascii "0 refused 2 0\n")
+    × (printed ((1 ∷ body) ++ (8 ∷ [])) ≡ ascii "0 1 -4096 4096\n1 refused 2 24\n")
+    × (printed ((1 ∷ body) ++ (5 ∷ 21 ∷ [])) ≡ ascii "0 1 -4096 4096\n1 refused 1 24\n")
+unfolding printed linesFrom closing outcomeLine boxLine refusalLine ends following signedDecimal decimal decimalWithin ascii outcome after
+    causes firstOf misplaced cut kindOf fields fieldsWithin meaning number word long givenSet givenStep givenHalfspaces badRange badOrder
+    tooWide span termSizes generatorSizes rises order sumBy uptoBy tab any all box lowEnd highEnd least even
+refusals-printed = (refl, refl, refl, refl)
