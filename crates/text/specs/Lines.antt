@@ -1,0 +1,61 @@
+-- Lines from their pieces: one law for each kind of line.
+use mathlib.Core.Path.{_≡_, refl, sym, ap, ap₂, _∙_}
+use mathlib.Core.Bool.{Bool, true, false}
+use mathlib.Core.List.{List, [], _∷_, _++_, append-assoc}
+use Prim.Native.Nat.{ℕ, _+_, _≤_}
+use native.Mathlib.Omega.{arith}
+use lib.ListN.{length}
+use lib.IntN.{ℤ}
+use Rattle.model.specs.Text.{ascii, decimal, following, ends, verdictWord, boxLine, verdictLine, refusalLine, endLine}
+use Rattle.text.specs.Appended.{Appended, both, named}
+use Rattle.text.specs.Pieces.{item, spaced}
+
+-- No line with numbers of 64 bits is longer: two numbers of up to 20 digits, twelve ends of up to 21 bytes, a space before each but the
+-- first, and the line's end are 306 bytes.
+abbrev pub longestLine : ℕ
+longestLine = 320
+
+-- words, each after a space, and the line's end are what follows a line's first word
+spaced-following : (ws : List (List ℕ)) → spaced ws ++ (10 ∷ []) ≡ following ws
+unfolding spaced following ascii
+spaced-following [] = refl
+spaced-following (w ∷ ws) = ap (32 ∷_) (append-assoc w (spaced ws) (10 ∷ []) ∙ ap (w ++_) (spaced-following ws))
+
+module _ {s0 s1 s2 : List ℕ} {p0 p1 p2 : ℕ} (field : ℕ) {tag t : ℕ} (same : t ≡ tag) (x : Appended 20 s0 s1 p0 p1 (decimal field))
+    (y : Appended 21 s1 s2 p1 p2 (item t)) where
+  pub box-put : {s3 s4 : List ℕ} {p3 p4 : ℕ} (low high : List ℤ) → Appended 264 s2 s3 p2 p3 (spaced (ends low high))
+      → Appended 1 s3 s4 p3 p4 (10 ∷ []) → Appended longestLine s0 s4 p0 p4 (boxLine field tag low high)
+  unfolding boxLine following ascii
+  box-put low high z end =
+      named (omega arith) (ap₂ (λ n l. decimal field ++ (32 ∷ (decimal n ++ l))) same (spaced-following (ends low high)))
+      (both x (both y (both z end)))
+
+  pub verdict-put : {s3 : List ℕ} {p3 : ℕ} {most : ℕ} (safe : Bool) (piece : List ℕ) → most ≤ 279 → piece ≡ following (verdictWord safe ∷ [])
+      → Appended most s2 s3 p2 p3 piece → Appended longestLine s0 s3 p0 p3 (verdictLine field tag safe)
+  unfolding verdictLine following ascii
+  verdict-put safe piece few e z =
+      named (omega arith) (ap₂ (λ n l. decimal field ++ (32 ∷ (decimal n ++ l))) same e) (both x (both y z))
+
+-- the bytes that the code writes for each verdict
+pub safe-piece : (safe : Bool) → safe ≡ true → 32 ∷ 115 ∷ 97 ∷ 102 ∷ 101 ∷ 10 ∷ [] ≡ following (verdictWord safe ∷ [])
+unfolding following ascii
+safe-piece safe e = rw e
+
+pub unknown-piece : (safe : Bool) → safe ≡ false
+    → 32 ∷ 117 ∷ 110 ∷ 107 ∷ 110 ∷ 111 ∷ 119 ∷ 110 ∷ 10 ∷ [] ≡ following (verdictWord safe ∷ [])
+unfolding following ascii
+unknown-piece safe e = rw e
+
+pub refusal-put : {s0 s1 s2 s3 s4 s5 : List ℕ} {p0 p1 p2 p3 p4 p5 : ℕ} (field place : ℕ) {number n : ℕ} → n ≡ number
+    → Appended 20 s0 s1 p0 p1 (decimal field) → Appended 8 s1 s2 p1 p2 (32 ∷ 114 ∷ 101 ∷ 102 ∷ 117 ∷ 115 ∷ 101 ∷ 100 ∷ [])
+    → Appended 21 s2 s3 p2 p3 (item n) → Appended 21 s3 s4 p3 p4 (item place) → Appended 1 s4 s5 p4 p5 (10 ∷ [])
+    → Appended longestLine s0 s5 p0 p5 (refusalLine field number place)
+unfolding refusalLine following ascii
+refusal-put field place same x word y z end =
+    named (omega arith) (ap (λ n. decimal field ++ (ascii " refused" ++ (item n ++ (item place ++ (10 ∷ []))))) same)
+    (both x (both word (both y (both z end))))
+
+pub end-put : {s0 s1 s2 s3 : List ℕ} {p0 p1 p2 p3 : ℕ} (field : ℕ) → Appended 3 s0 s1 p0 p1 (101 ∷ 110 ∷ 100 ∷ [])
+    → Appended 21 s1 s2 p1 p2 (item field) → Appended 1 s2 s3 p2 p3 (10 ∷ []) → Appended longestLine s0 s3 p0 p3 (endLine field)
+unfolding endLine following ascii
+end-put field word x end = named (omega arith) refl (both word (both x end))
