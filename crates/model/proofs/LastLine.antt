@@ -51,7 +51,8 @@ pub refusal-is-last : (place : ℕ) (st : State) (f : List ℕ) (fs : List (List
     → linesFrom place st (f ∷ fs) ≡ refusalLine (st .count) n place
 unfolding linesFrom
 refusal-is-last place st f fs n e r =
-    ap₂ _++_ (refused-line place st f n e r) (over-prints-nothing (place + length f) (after st f) fs (refused-over st f n e r)) ∙ append-nil _
+    ap₂ _++_ (refused-line place st f n e r) (over-prints-nothing (place + length f) (after st f) fs (refused-over st f n e r))
+    ∙ append-nil _
 
 -- a field that isn't accepted leaves a run that is over
 not-accepted : (st : State) (f : List ℕ) → accepted st f ≡ false → after st f .over ≡ true
@@ -133,7 +134,8 @@ closing-is st (f ∷ fs) e = go (refusal st f) refl (closing-is (after st f) fs)
 -- An output consists of the lines of the answers, and of an `end` line exactly where each field is accepted: it has the number of the last.
 pub end-exactly : (input : List ℕ)
     → printed input
-    ≡ linesOf (fields input) (answers 0 begin (fields input)) ++ cond (unrefused begin (fields input)) (endLine (length (fields input) - 1)) []
+    ≡ linesOf (fields input) (answers 0 begin (fields input))
+    ++ cond (unrefused begin (fields input)) (endLine (length (fields input) - 1)) []
 unfolding printed
 end-exactly input =
     by-answers 0 begin (fields input) ∙ ap (linesOf (fields input) (answers 0 begin (fields input)) ++_)

@@ -30,21 +30,11 @@ module _ {s0 s1 s2 : List ℕ} {p0 p1 p2 : ℕ} (field : ℕ) {tag t : ℕ} (sam
       named (omega arith) (ap₂ (λ n l. decimal field ++ (32 ∷ (decimal n ++ l))) same (spaced-following (ends low high)))
       (both x (both y (both z end)))
 
-  pub verdict-put : {s3 : List ℕ} {p3 : ℕ} {most : ℕ} (safe : Bool) (piece : List ℕ) → most ≤ 279 → piece ≡ following (verdictWord safe ∷ [])
-      → Appended most s2 s3 p2 p3 piece → Appended longestLine s0 s3 p0 p3 (verdictLine field tag safe)
+  pub verdict-put : {s3 : List ℕ} {p3 : ℕ} (safe : Bool) → Appended 9 s2 s3 p2 p3 (following (verdictWord safe ∷ []))
+      → Appended longestLine s0 s3 p0 p3 (verdictLine field tag safe)
   unfolding verdictLine following ascii
-  verdict-put safe piece few e z =
-      named (omega arith) (ap₂ (λ n l. decimal field ++ (32 ∷ (decimal n ++ l))) same e) (both x (both y z))
-
--- the bytes that the code writes for each verdict
-pub safe-piece : (safe : Bool) → safe ≡ true → 32 ∷ 115 ∷ 97 ∷ 102 ∷ 101 ∷ 10 ∷ [] ≡ following (verdictWord safe ∷ [])
-unfolding following ascii
-safe-piece safe e = rw e
-
-pub unknown-piece : (safe : Bool) → safe ≡ false
-    → 32 ∷ 117 ∷ 110 ∷ 107 ∷ 110 ∷ 111 ∷ 119 ∷ 110 ∷ 10 ∷ [] ≡ following (verdictWord safe ∷ [])
-unfolding following ascii
-unknown-piece safe e = rw e
+  verdict-put safe z =
+      named (omega arith) (ap (λ n. decimal field ++ (32 ∷ (decimal n ++ following (verdictWord safe ∷ [])))) same) (both x (both y z))
 
 pub refusal-put : {s0 s1 s2 s3 s4 s5 : List ℕ} {p0 p1 p2 p3 p4 p5 : ℕ} (field place : ℕ) {number n : ℕ} → n ≡ number
     → Appended 20 s0 s1 p0 p1 (decimal field) → Appended 8 s1 s2 p1 p2 (32 ∷ 114 ∷ 101 ∷ 102 ∷ 117 ∷ 115 ∷ 101 ∷ 100 ∷ [])

@@ -1,6 +1,6 @@
 -- The pieces of which lines are made.
 use mathlib.Core.Path.{_≡_, refl, sym, ap, ap₂, _∙_, subst}
-use mathlib.Core.Bool.{true, false, true≢false}
+use mathlib.Core.Bool.{Bool, true, false, true≢false}
 use mathlib.Core.List.{List, [], _∷_, _++_, append-assoc, append-nil}
 use Prim.Native.Nat.{ℕ, zero, suc, _+_}
 use native.Mathlib.Numerals.{add-one}
@@ -10,7 +10,7 @@ use lib.IntN.{ℤ, pos, negsuc, natAbs}
 use lib.Signed.{ltZ}
 use Rattle.whole.specs.Tab.{tab}
 use Rattle.model.specs.Set.{at}
-use Rattle.model.specs.Text.{ascii, decimal, signedDecimal, following, ends}
+use Rattle.model.specs.Text.{ascii, decimal, signedDecimal, following, verdictWord, ends}
 use Rattle.text.specs.Appended.{Appended, both, named}
 
 -- a number after a space
@@ -42,18 +42,32 @@ unfolding signedDecimal
 positive-put (pos m) n t e y = named (omega arith) (ap decimal e) y
 positive-put (negsuc m) n t e y = absurd (true≢false t)
 
+-- ---- a verdict
+pub safe-put : {a b : List ℕ} {i k : ℕ} (safe : Bool) → safe ≡ true
+    → Appended 6 a b i k (32 ∷ 115 ∷ 97 ∷ 102 ∷ 101 ∷ 10 ∷ []) → Appended 9 a b i k (following (verdictWord safe ∷ []))
+unfolding following ascii
+safe-put safe e x = named (omega arith) (rw e) x
+
+pub unknown-put : {a b : List ℕ} {i k : ℕ} (safe : Bool) → safe ≡ false
+    → Appended 9 a b i k (32 ∷ 117 ∷ 110 ∷ 107 ∷ 110 ∷ 111 ∷ 119 ∷ 110 ∷ 10 ∷ []) → Appended 9 a b i k (following (verdictWord safe ∷ []))
+unfolding following ascii
+unknown-put safe e x = named (omega arith) (rw e) x
+
 -- ---- the ends of a box, two a turn
 pub no-ends : (low high : ℕ → ℤ) → [] ≡ spaced (ends (tab 0 low) (tab 0 high))
 unfolding spaced ends tab
 no-ends low high = refl
 
 ends-more : (low high : ℕ → ℤ) (n : ℕ)
-    → spaced (ends (tab n low) (tab n high)) ++ (signedItem (low n) ++ signedItem (high n)) ≡ spaced (ends (tab (suc n) low) (tab (suc n) high))
+    → spaced (ends (tab n low) (tab n high)) ++ (signedItem (low n) ++ signedItem (high n))
+    ≡ spaced (ends (tab (suc n) low) (tab (suc n) high))
 unfolding spaced ends ascii tab
 ends-more low high zero = ap (λ e. 32 ∷ (signedDecimal (low 0) ++ (32 ∷ e))) (sym (append-nil (signedDecimal (high 0))))
 ends-more low high (suc n) =
-    ap (32 ∷_) (append-assoc (signedDecimal (low 0)) _ _ ∙ ap (λ e. signedDecimal (low 0) ++ (32 ∷ e)) (append-assoc (signedDecimal (high 0)) _ _
-    ∙ ap (signedDecimal (high 0) ++_) (ends-more (λ i. low (suc i)) (λ i. high (suc i)) n)))
+    let first = signedDecimal (low 0) in
+    let second = signedDecimal (high 0) in
+    ap (32 ∷_) (append-assoc first _ _ ∙ ap (λ e. first ++ (32 ∷ e)) (append-assoc second _ _
+    ∙ ap (second ++_) (ends-more (λ i. low (suc i)) (λ i. high (suc i)) n)))
 
 pub ends-put : {most : ℕ} {a b c d : List ℕ} {i j k l : ℕ} (low high : ℕ → ℤ) (n : ℕ) (y z : ℤ)
     → Appended most a b i j (spaced (ends (tab n low) (tab n high)))

@@ -39,10 +39,7 @@ pub fn verdict_line(out: &mut [u8], at: usize, field: usize, tag: u8, safe: bool
 {
     let a = words::append_number(out, at, field as u64);
     let b = words::append_item(out, a, whole::widen_u8(tag));
-    if safe {
-        return words::append(out, b, b" safe\n");
-    }
-    words::append(out, b, b" unknown\n")
+    words::append_verdict(out, b, safe)
 }
 
 // The line of a refused field whose first byte is at `place`.

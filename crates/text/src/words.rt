@@ -1,8 +1,9 @@
 // The pieces of a line: bytes and decimal numbers, put into a lent slice one after the other.
 // Each function writes from the place `at` on and answers the place after its piece.
+ghost use mathlib.Core.List.{[], _∷_};
 ghost use Prim.Native.Nat.{_+_, _*_, _≤_};
 ghost use lib.ListN.{length};
-ghost use Rattle.model.specs.Text.{decimal, signedDecimal, ends};
+ghost use Rattle.model.specs.Text.{decimal, signedDecimal, following, verdictWord, ends};
 ghost use Rattle.text.specs.Appended.{Appended};
 ghost use Rattle.text.specs.Pieces.{item, signedItem, firsts, spaced};
 
@@ -60,10 +61,22 @@ pub fn append_signed_item(out: &mut [u8], at: usize, z: i64) -> usize
     append_signed(out, next, z)
 }
 
+// A space, the verdict and the end of the line.
+pub fn append_verdict(out: &mut [u8], at: usize, safe: bool) -> usize
+    requires { ⌜ at + 9 ≤ length (now out) ⌝ }
+    ensures { λ r. ⌜ Appended 9 (now (out .entry)) (now (out .exit)) at r (following (verdictWord safe ∷ [])) ⌝ }
+{
+    if safe {
+        return append(out, at, b" safe\n");
+    }
+    append(out, at, b" unknown\n")
+}
+
 // The low and the high end of each of the first n coordinates, each after a space.
 pub fn append_ends(out: &mut [u8], at: usize, n: usize, low: &[i64; 6], high: &[i64; 6]) -> usize
     requires { ⌜ (n ≤ 6) × (at + 264 ≤ length (now out)) ⌝ }
-    ensures { λ r. ⌜ Appended 264 (now (out .entry)) (now (out .exit)) at r (spaced (ends (firsts n (now (low .entry))) (firsts n (now (high .entry))))) ⌝ }
+    ensures { λ r. ⌜ Appended 264 (now (out .entry)) (now (out .exit)) at r
+        (spaced (ends (firsts n (now (low .entry))) (firsts n (now (high .entry))))) ⌝ }
 {
     let mut o = at;
     for i in 0..n {

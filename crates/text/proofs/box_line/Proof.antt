@@ -30,8 +30,9 @@ returns c =
     let last = c .before .before in
     let ends = last .before .before .before .before .before in
     let tag = ends .before .before .before .before in
-    box-put _ (tag .before .widen-u8 .ensures .0) (tag .before .before .before .before .before .append-number .ensures) (tag .append-item .ensures) _ _ (ends .append-ends .ensures)
-    (last .append .ensures)
+    let field = tag .before .before .before .before .before in
+    box-put _ (tag .before .widen-u8 .ensures .0) (field .append-number .ensures) (tag .append-item .ensures) _ _
+    (ends .append-ends .ensures) (last .append .ensures)
 
 pub box-line-spec : {M : Type 1} → statement M
 box-line-spec =

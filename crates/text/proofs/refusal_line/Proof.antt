@@ -37,8 +37,9 @@ returns c =
     let place = last .before .before .before .before .before in
     let number = place .before .before .before .before in
     let word = number .before .before .before .before .before in
-    refusal-put _ _ (number .before .widen-u8 .ensures .0) (word .before .before .before .before .before .append-number .ensures) (word .append .ensures) (number .append-item .ensures)
-    (place .append-item2 .ensures) (last .append2 .ensures)
+    let field = word .before .before .before .before .before in
+    refusal-put _ _ (number .before .widen-u8 .ensures .0) (field .append-number .ensures) (word .append .ensures)
+    (number .append-item .ensures) (place .append-item2 .ensures) (last .append2 .ensures)
 
 pub refusal-line-spec : {M : Type 1} → statement M
 refusal-line-spec =

@@ -1,11 +1,9 @@
 -- `text::words::append` meets its contract: after j turns the first j bytes of the piece stand from the place on.
 use borrow.Author.Needs.{needs}
 use native.Mathlib.Omega.{arith}
-use mathlib.Core.Path.{_≡_, refl, sym, ap, _∙_}
-use Prim.Native.Nat.{ℕ, _+_, _-_, _≤_, _<_}
-use native.Mathlib.Numerals.{add-one}
-use mathlib.Core.List.{List, _++_}
-use lib.ListN.{length, take, length-set}
+use mathlib.Core.Path.{_≡_, refl}
+use Prim.Native.Nat.{_-_, _≤_}
+use lib.ListN.{length, length-set}
 use lib.Seq.{paste}
 use denote.Ref.{now}
 use Rattle.text.specs.Appended.{filling-begins, filling-goes-on, filling-ends}
@@ -39,7 +37,9 @@ loop-less c = search needs
 loop-again : tie.Need-loop-again Inv-loop μ-loop
 loop-again c =
     let l = c .before .before in
-    (omega arith, filling-goes-on (now (l .before .args .out)) (l .before .args .at) (now (l .before .args .piece)) (l .before .pre) _ _ (l .loop .inv .1) (c .before .loop-test .taken), simp length-set (l .loop .inv .2))
+    let s = l .before in
+    let more = filling-goes-on (now (s .args .out)) (s .args .at) (now (s .args .piece)) (s .pre) in
+    (omega arith, more _ _ (l .loop .inv .1) (c .before .loop-test .taken), simp length-set (l .loop .inv .2))
 
 add-result : tie.Need-add-result Inv-loop μ-loop
 add-result c = search needs
@@ -53,4 +53,5 @@ returns c = let l = c .before in filling-ends _ _ _ (l .before .pre) _ _ (l .loo
 pub append-spec : {M : Type 1} → statement M
 append-spec =
     tie.close
-    (tie.spec Inv-loop μ-loop loop-holds shared-slice-read-out add-out slice-write-out add-j loop-less loop-again add-result same-length returns)
+    (tie.spec Inv-loop μ-loop loop-holds shared-slice-read-out add-out slice-write-out add-j loop-less loop-again add-result same-length
+    returns)

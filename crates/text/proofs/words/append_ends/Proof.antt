@@ -1,6 +1,6 @@
 -- `text::words::append_ends` meets its contract: two ends a turn.
-use mathlib.Core.Path.{_≡_, refl, ap, _∙_, subst}
-use Prim.Native.Nat.{_+_, _*_, _-_, _≤_}
+use mathlib.Core.Path.{_≡_, refl, ap, _∙_}
+use Prim.Native.Nat.{_*_, _-_, _≤_}
 use native.Mathlib.Nat.{le-antisymm}
 use lib.ListN.{length}
 use Rattle.model.specs.Set.{at}
@@ -13,12 +13,10 @@ use borrow.Author.Needs.{needs}
 use native.Mathlib.Omega.{arith}
 use Rattle.text.proofs.words.append_ends.Statement.{statement}
 use Rattle.text.proofs.words.append_ends.Tie as tie
-use Rattle.text.proofs.words.append_ends.Reads as reads
-use Rattle.text.proofs.words.append_ends.Lts as lts
-use Rattle.text.proofs.words.append_signed_item.Reads as append-signed-item-reads
 
 abbrev Inv-loop : tie.InvT-loop
-Inv-loop out₀ at n low high o₀ i₀ out o i = (i ≤ n) × Appended (44 * i) out₀ out at o (spaced (ends (firsts i low) (firsts i high))) × (length out ≡ length out₀)
+Inv-loop out₀ at n low high o₀ i₀ out o i =
+    (i ≤ n) × Appended (44 * i) out₀ out at o (spaced (ends (firsts i low) (firsts i high))) × (length out ≡ length out₀)
 
 abbrev μ-loop : tie.MeasureT-loop
 μ-loop out₀ at n low high o₀ i₀ out o i = n - i
@@ -53,14 +51,15 @@ loop-less c = search needs
 
 loop-again : tie.Need-loop-again Inv-loop μ-loop
 loop-again c =
-    let l = c .before .before .before .before .before .before .before .before .before .before .before in
-    let s = l .before .before in
-    let x = c .before .before .before .before .before .before .before .append-signed-item in
-    let y = c .before .before .append-signed-item2 in (
+    let high = c .before .before in
+    let low = high .before .before .before .before .before in
+    let l = low .before .before .before .before in
+    let args = l .before .before .args in (
       omega arith,
-      named (omega arith) refl (ends-put (at (now (s .args .low))) (at (now (s .args .high))) (l .loop .i) _ _ (l .loop .inv .1) (x .ensures) (y .ensures)
-          (read64 _ (c .before .before .before .before .before .before .before .before .append-signed-item-arg2 .given)) (read64 _ (c .before .before .before .append-signed-item-arg4 .given))),
-      y .kept .0 ∙ x .kept .0 ∙ l .loop .inv .2,
+      named (omega arith) refl (ends-put (at (now (args .low))) (at (now (args .high))) (l .loop .i) _ _ (l .loop .inv .1)
+          (low .append-signed-item .ensures) (high .append-signed-item2 .ensures)
+          (read64 _ (low .before .append-signed-item-arg2 .given)) (read64 _ (high .before .append-signed-item-arg4 .given))),
+      high .append-signed-item2 .kept .0 ∙ low .append-signed-item .kept .0 ∙ l .loop .inv .2,
     )
 
 same-length : tie.Need-same-length Inv-loop μ-loop
@@ -70,7 +69,9 @@ returns : tie.Need-returns Inv-loop μ-loop
 returns c =
     let l = c .before in
     let s = l .before .before in
-    named (omega (arith, l .loop .inv .0, s .pre .0)) (ap (λ i. spaced (ends (firsts i (now (s .args .low))) (firsts i (now (s .args .high))))) (le-antisymm (l .loop .inv .0) (c .loop-test .left))) (l .loop .inv .1)
+    let all = le-antisymm (l .loop .inv .0) (c .loop-test .left) in
+    named (omega (arith, l .loop .inv .0, s .pre .0))
+    (ap (λ i. spaced (ends (firsts i (now (s .args .low))) (firsts i (now (s .args .high))))) all) (l .loop .inv .1)
 
 pub append-ends-spec : {M : Type 1} → statement M
 append-ends-spec =

@@ -16,7 +16,9 @@ slice-aggregate-append : tie.Need-slice-aggregate-append
 slice-aggregate-append c = search needs
 
 few : (c : tie.After-digits2) → c .before .before .decimal .result ≤ 20
-few c = let s = c .before .before .before .before .before in few-digits (s .args .n) _ (search needs) (c .before .before .decimal .ensures .1 .0)
+few c =
+    let decimal = c .before .before in
+    few-digits (decimal .before .before .before .args .n) _ (search needs) (decimal .decimal .ensures .1 .0)
 
 append-requires : tie.Need-append-requires
 append-requires c κs = omega (arith, few c, c .before .before .decimal .ensures .0 .1, c .before .before .before .before .before .pre)
@@ -26,8 +28,9 @@ same-length c = search needs
 
 returns : tie.Need-returns
 returns c =
-    let d = c .before .before .before .before .before .decimal in
-    numbered _ _ _ (c .before .before .append .ensures) (omega (arith, few (c .before .before .before), d .ensures .0 .1)) (d .ensures .1 .0) (d .ensures .1 .1)
+    let made = c .before .before .before .before .before .decimal .ensures in
+    numbered _ _ _ (c .before .before .append .ensures) (omega (arith, few (c .before .before .before), made .0 .1)) (made .1 .0)
+    (made .1 .1)
 
 pub append-number-spec : {M : Type 1} → statement M
 append-number-spec =

@@ -19,18 +19,21 @@ append-requires : tie.Need-append-requires
 append-requires c κs = search needs
 
 append-number-requires : tie.Need-append-number-requires
-append-number-requires c κs = let a = c .before .before .before .append in omega (arith, a .ensures .ends, a .kept .0, c .before .before .before .before .before .before .before .before .before .pre)
+append-number-requires c κs =
+    let sign = c .before .before .before in
+    omega (arith, sign .append .ensures .ends, sign .append .kept .0, sign .before .before .before .before .before .before .pre)
 
 same-length : tie.Need-same-length
 same-length c = search needs
 
 returns : tie.Need-returns
 returns c =
-    let s = c .before .before .before .before .before .before .before .before .before .before .before .before in
+    let sign = c .before .before .before .before .before .before in
+    let test = sign .before .before .before in
+    let s = test .before .before .before in
     let e = toZ-ofZ w64 (s .args .z) (s .fits .z) in
-    negative-put (s .args .z) _ (rw e at (c .before .before .before .before .before .before .before .before .before .if1 .taken))
-    (c .before .before .before .before .before .before .before .before .before .before .size .ensures ∙ ap natAbs e)
-    (c .before .before .before .before .before .before .append .ensures) (c .before .before .append-number .ensures)
+    negative-put (s .args .z) _ (rw e at (test .if1 .taken)) (test .before .size .ensures ∙ ap natAbs e) (sign .append .ensures)
+    (c .before .before .append-number .ensures)
 
 append-number-requires-2 : tie.Need-append-number-requires-2
 append-number-requires-2 c κs = search needs
@@ -40,12 +43,14 @@ same-length-2 c = search needs
 
 returns-2 : tie.Need-returns-2
 returns-2 c =
-    let s = c .before .before .before .before .before .before .before in
+    let test = c .before .before .before .before in
+    let s = test .before .before .before in
     let e = toZ-ofZ w64 (s .args .z) (s .fits .z) in
-    positive-put (s .args .z) _ (rw e at (c .before .before .before .before .if1 .left))
-    (c .before .before .before .before .before .size .ensures ∙ ap natAbs e) (c .before .before .append-number2 .ensures)
+    positive-put (s .args .z) _ (rw e at (test .if1 .left)) (test .before .size .ensures ∙ ap natAbs e)
+    (c .before .before .append-number2 .ensures)
 
 pub append-signed-spec : {M : Type 1} → statement M
 append-signed-spec =
     tie.close
-    (tie.spec size-requires slice-aggregate-append append-requires append-number-requires same-length returns append-number-requires-2 same-length-2 returns-2)
+    (tie.spec size-requires slice-aggregate-append append-requires append-number-requires same-length returns append-number-requires-2
+    same-length-2 returns-2)
