@@ -1,5 +1,4 @@
 -- `text::words::append_item` meets its contract: piece after piece.
-use native.Mathlib.Omega.{arith}
 use borrow.Author.Needs.{needs}
 use Rattle.model.specs.Text.{ascii}
 use Rattle.text.specs.Appended.{both}

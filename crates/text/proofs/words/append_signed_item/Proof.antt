@@ -1,5 +1,4 @@
 -- `text::words::append_signed_item` meets its contract: piece after piece.
-use native.Mathlib.Omega.{arith}
 use borrow.Author.Needs.{needs}
 use mir.Syntax.{w64}
 use mir.ValLaws.{toZ-ofZ}
