@@ -5,6 +5,7 @@ ghost use Prim.Native.Nat.{min};
 ghost use lib.ListN.{length};
 ghost use Rattle.model.specs.Text.{boxLine, verdictLine, refusalLine, endLine};
 ghost use Rattle.text.specs.Pieces.{firsts};
+ghost use Rattle.text.specs.Lines.{longestLine};
 ghost use Rattle.lines.specs.Put.{Put};
 
 // The number of bytes of the line, or no room for it.
@@ -58,10 +59,10 @@ pub fn end_line(out: &mut [u8], field: usize) -> Written
 }
 
 // Room for the longest line.
-fn blank() -> [u8; 320]
-    ensures { λ r. ⌜ length r ≡ 320 ⌝ }
+fn blank() -> [u8; text::LONGEST_LINE]
+    ensures { λ r. ⌜ length r ≡ longestLine ⌝ }
 {
-    [0; 320]
+    [0; text::LONGEST_LINE]
 }
 
 fn at_most_six(n: usize) -> usize

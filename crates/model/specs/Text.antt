@@ -7,7 +7,6 @@ use Prim.Native.String.{String, [] as noText, _∷_ as _then_}
 use lib.Dec.{ltb}
 use lib.ListN.{length}
 use lib.IntN.{ℤ, pos, negsuc}
-use Rattle.model.specs.Operations.{Box}
 use Rattle.model.specs.Field.{Outcome, inside, verdict, refused, skipped}
 use Rattle.model.specs.Run.{State, begin, tag, after, Answer, answer, fields}
 

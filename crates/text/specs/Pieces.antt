@@ -31,9 +31,9 @@ spaced (w ∷ ws) = ascii " " ++ (w ++ spaced ws)
 
 -- ---- a signed number, by its sign and its size
 pub negative-put : {a b c : List ℕ} {i j k : ℕ} (z : ℤ) (n : ℕ) → ltZ z (pos 0) ≡ true → n ≡ natAbs z
-    → Appended 1 a b i j (45 ∷ []) → Appended 20 b c j k (decimal n) → Appended 21 a c i k (signedDecimal z)
+    → Appended 1 a b i j (ascii "-") → Appended 20 b c j k (decimal n) → Appended 21 a c i k (signedDecimal z)
 unfolding signedDecimal ascii
-negative-put {a} {b} {c} {i} {j} {k} (negsuc m) n t e x y = subst (λ l. Appended 21 a c i k (45 ∷ decimal l)) e (both x y)
+negative-put {a} {b} {c} {i} {j} {k} (negsuc m) n t e x y = subst (λ l. Appended 21 a c i k (ascii "-" ++ decimal l)) e (both x y)
 negative-put (pos m) n t e x y = absurd (omega (arith, ltb-true m 0 t))
 
 pub positive-put : {a b : List ℕ} {i k : ℕ} (z : ℤ) (n : ℕ) → ltZ z (pos 0) ≡ false → n ≡ natAbs z
@@ -44,12 +44,12 @@ positive-put (negsuc m) n t e y = absurd (true≢false t)
 
 -- ---- a verdict
 pub safe-put : {a b : List ℕ} {i k : ℕ} (safe : Bool) → safe ≡ true
-    → Appended 6 a b i k (32 ∷ 115 ∷ 97 ∷ 102 ∷ 101 ∷ 10 ∷ []) → Appended 9 a b i k (following (verdictWord safe ∷ []))
+    → Appended 6 a b i k (ascii " safe\n") → Appended 9 a b i k (following (verdictWord safe ∷ []))
 unfolding following ascii
 safe-put safe e x = named (omega arith) (rw e) x
 
 pub unknown-put : {a b : List ℕ} {i k : ℕ} (safe : Bool) → safe ≡ false
-    → Appended 9 a b i k (32 ∷ 117 ∷ 110 ∷ 107 ∷ 110 ∷ 111 ∷ 119 ∷ 110 ∷ 10 ∷ []) → Appended 9 a b i k (following (verdictWord safe ∷ []))
+    → Appended 9 a b i k (ascii " unknown\n") → Appended 9 a b i k (following (verdictWord safe ∷ []))
 unfolding following ascii
 unknown-put safe e x = named (omega arith) (rw e) x
 

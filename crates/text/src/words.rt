@@ -1,7 +1,7 @@
 // The pieces of a line: bytes and decimal numbers, put into a lent slice one after the other.
 // Each function writes from the place `at` on and answers the place after its piece.
 ghost use mathlib.Core.List.{[], _∷_};
-ghost use Prim.Native.Nat.{_+_, _*_, _≤_};
+ghost use Prim.Native.Nat.{_+_, _≤_};
 ghost use lib.ListN.{length};
 ghost use Rattle.model.specs.Text.{decimal, signedDecimal, following, verdictWord, ends};
 ghost use Rattle.text.specs.Appended.{Appended};

@@ -1,4 +1,5 @@
 -- `text::box_line` meets its contract: piece after piece.
+use Rattle.model.specs.Text.{ascii}
 use Rattle.text.specs.Lines.{box-put}
 use borrow.Author.Needs.{needs}
 use Rattle.text.proofs.box_line.Statement.{statement}
@@ -26,6 +27,7 @@ same-length : tie.Need-same-length
 same-length c = search needs
 
 returns : tie.Need-returns
+unfolding ascii
 returns c =
     let last = c .before .before in
     let ends = last .before .before .before .before .before in

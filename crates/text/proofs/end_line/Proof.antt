@@ -1,4 +1,5 @@
 -- `text::end_line` meets its contract: piece after piece.
+use Rattle.model.specs.Text.{ascii}
 use Rattle.text.specs.Lines.{end-put}
 use borrow.Author.Needs.{needs}
 use Rattle.text.proofs.end_line.Statement.{statement}
@@ -23,6 +24,7 @@ same-length : tie.Need-same-length
 same-length c = search needs
 
 returns : tie.Need-returns
+unfolding ascii
 returns c =
     let last = c .before .before in
     let number = last .before .before .before .before .before in

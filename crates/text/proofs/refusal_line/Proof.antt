@@ -1,4 +1,5 @@
 -- `text::refusal_line` meets its contract: piece after piece.
+use Rattle.model.specs.Text.{ascii}
 use Rattle.text.specs.Lines.{refusal-put}
 use borrow.Author.Needs.{needs}
 use Rattle.text.proofs.refusal_line.Statement.{statement}
@@ -32,6 +33,7 @@ same-length : tie.Need-same-length
 same-length c = search needs
 
 returns : tie.Need-returns
+unfolding ascii
 returns c =
     let last = c .before .before in
     let place = last .before .before .before .before .before in

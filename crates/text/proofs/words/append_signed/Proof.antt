@@ -1,10 +1,11 @@
 -- `text::words::append_signed` meets its contract: the sign, then the digits of the size.
 use native.Mathlib.Omega.{arith}
 use borrow.Author.Needs.{needs}
-use mathlib.Core.Path.{_≡_, ap, _∙_}
+use mathlib.Core.Path.{ap, _∙_}
 use lib.IntN.{natAbs}
 use mir.Syntax.{w64}
 use mir.ValLaws.{toZ-ofZ}
+use Rattle.model.specs.Text.{ascii}
 use Rattle.text.specs.Pieces.{negative-put, positive-put}
 use Rattle.text.proofs.words.append_signed.Statement.{statement}
 use Rattle.text.proofs.words.append_signed.Tie as tie
@@ -27,6 +28,7 @@ same-length : tie.Need-same-length
 same-length c = search needs
 
 returns : tie.Need-returns
+unfolding ascii
 returns c =
     let sign = c .before .before .before .before .before .before in
     let test = sign .before .before .before in

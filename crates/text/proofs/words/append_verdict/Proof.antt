@@ -1,4 +1,5 @@
 -- `text::words::append_verdict` meets its contract: one word or the other.
+use Rattle.model.specs.Text.{ascii}
 use Rattle.text.specs.Pieces.{safe-put, unknown-put}
 use borrow.Author.Needs.{needs}
 use Rattle.text.proofs.words.append_verdict.Statement.{statement}
@@ -14,6 +15,7 @@ same-length : tie.Need-same-length
 same-length c = search needs
 
 returns : tie.Need-returns
+unfolding ascii
 returns c = let word = c .before .before in safe-put _ (word .before .before .before .if1 .taken) (word .append .ensures)
 
 slice-aggregate-append-2 : tie.Need-slice-aggregate-append-2
@@ -26,6 +28,7 @@ same-length-2 : tie.Need-same-length-2
 same-length-2 c = search needs
 
 returns-2 : tie.Need-returns-2
+unfolding ascii
 returns-2 c = let word = c .before .before in unknown-put _ (word .before .before .before .if1 .left) (word .append2 .ensures)
 
 pub append-verdict-spec : {M : Type 1} → statement M
