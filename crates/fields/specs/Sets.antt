@@ -2,7 +2,7 @@
 use mathlib.Core.Path.{_≡_, refl, sym, _∙_, ap, ap₂}
 use mathlib.Core.List.{List, [], _∷_, _++_}
 use mathlib.Core.Option.{Option, none, some}
-use mathlib.Core.Bool.{Bool, true, false, not, cond, _||_}
+use mathlib.Core.Bool.{Bool, true, false, not, cond, _||_, or-true}
 use Prim.Native.Nat.{ℕ, _≤_}
 use native.Mathlib.Omega.{arith}
 use borrow.Author.Tests.{ltb-false, le-ltb, eqb-true, not-false}
@@ -21,6 +21,7 @@ use Rattle.model.specs.Library.{Given, ofFirst, examine}
 use Rattle.zonotope.specs.declared.PolyZonotope.{PolyZonotope}
 use Rattle.zonotope.specs.declared.Examined.{Examined}
 use Rattle.zonotope.specs.declared.Examined.the-variants.{Refused}
+use Rattle.zonotope.specs.Valid.{passed}
 use Rattle.zonotope.specs.Record.{view, pack, given}
 use Rattle.zonotope.specs.Answer.{examined, orElse, first-append}
 use Rattle.answers.specs.Answer.{ofResult}
@@ -49,14 +50,11 @@ ofSummand n b = ofLayout b ++ ((5 if differs (dimension b) n) ∷ ofContents b)
 -- ---- the layout
 pub set-body : (b : List ℕ) → firstOf (ofLayout b) ≡ none → SetBody b
 unfolding firstOf
-set-body b e = go (ltb (length b) 4) (setCountsOut b) (eqb (length b) (setLength b)) refl refl e
-  where
-    go : (x y z : Bool) → setCountsOut b ≡ y → eqb (length b) (setLength b) ≡ z
-        → cond x (some 3) (cond y (some 4) (cond (not z) (some 3) none)) ≡ none → SetBody b
-    go true y z p q e = let n : _≡_ {A = ℕ} 0 1 = cc in absurd (omega arith)
-    go false true z p q e = let n : _≡_ {A = ℕ} 0 1 = cc in absurd (omega arith)
-    go false false false p q e = let n : _≡_ {A = ℕ} 0 1 = cc in absurd (omega arith)
-    go false false true p q e = record { counts = p; long = eqb-true _ _ q }
+set-body b e =
+    let short = passed (ltb (length b) 4) 3 e in
+    let counts = passed (setCountsOut b) 4 (short .1) in
+    let long = passed (not (eqb (length b) (setLength b))) 3 (counts .1) in
+    record { counts = counts .0; long = eqb-true _ _ (not-false _ (long .0)) }
 
 -- ---- the contents
 -- identifiers of a file are in a record's range
@@ -81,3 +79,23 @@ beyond-out (k ∷ l) e = go (eqb k 0) (ltb fileIdentifiers k) (any (ltb fileIden
     go true y z h e = refl
     go false true z h e = refl
     go false false z h e = h e
+
+module _ {b : List ℕ} (s : SetBody b) where
+  ids : List ℕ
+  ids = givenSet b .identifiers
+
+  -- 6 by what is asked of the identifiers and the radii alone
+  pub contents-out : any (ltb fileIdentifiers) (givenSet b .identifiers) || any negative (radiusWords b) ≡ true
+      → Refused 6 ≡ examined (firstOf (ofContents b))
+  unfolding firstOf badRange
+  contents-out e = rw (go (any (ltb fileIdentifiers) (givenSet b .identifiers)) (any negative (radiusWords b)) refl e)
+    where
+      go : (x y : Bool) → any (ltb fileIdentifiers) (givenSet b .identifiers) ≡ x → (x || y) ≡ true
+          → (badRange fileIdentifiers (givenSet b) || y) ≡ true
+      go true y p e = rw (beyond-out (givenSet b .identifiers) p)
+      go false true p e = or-true (badRange fileIdentifiers (givenSet b))
+
+  -- else by examining the record
+  pub contents-in : any (ltb fileIdentifiers) (givenSet b .identifiers) || any negative (radiusWords b) ≡ false
+      → {r : Examined} → r ≡ examined (examine (given (pack (givenSet b)))) → r ≡ examined (firstOf (ofContents b))
+  contents-in e p = ?

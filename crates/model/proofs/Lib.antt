@@ -1,6 +1,7 @@
 -- What is proved of the definitions.
 --     Marked, Listing                      document 01's marked table, its listing and some refusals
 --     Written .. Longest                   computed from bytes: all kinds in two coordinates; every limit and refusal; 4,096 fields
+--     Printed, Numerals, LastLine          the listing byte for byte; numbers as text; how an output ends
 --     PairTable                            each place of the pair table belongs to one pair, in row order
 --     Order, Collect, Merge                the order of terms; collecting doesn't depend on the order in which terms come
 --     FoldOrder, Select, Level, FirstBySize   folding the smallest one at a time is keeping the first by size, then by place
@@ -23,6 +24,9 @@ pub mod Written
 pub mod TwoCoordinates
 pub mod Refusals
 pub mod Longest
+pub mod Printed
+pub mod Numerals
+pub mod LastLine
 pub mod PairTable
 pub mod Vectors
 pub mod Order

@@ -25,21 +25,21 @@ use Rattle.model.specs.Field.{Outcome, inside, verdict, refused, meaning
 use Rattle.model.specs.Run.{Answer, begin, kindOf, firstOf, misplaced, cut, causes, after, outcome, answers, fields, fieldsWithin}
 
 -- 4096·α, with identifier 1, as the body of a start set or a sum
-abbrev body : List ℕ
+abbrev pub body : List ℕ
 body = 21 ∷ 0 ∷ 1 ∷ 1 ∷ 1 ∷ 0 ∷ 1 ∷ 0 ∷ 0 ∷ 0 ∷ 0 ∷ 0 ∷ 0 ∷ 0 ∷ 1 ∷ 0 ∷ 16 ∷ 0 ∷ 0 ∷ 0 ∷ 0 ∷ 0 ∷ 0 ∷ []
 
 -- the start, and the step with c 0, A -4096, Q 4096
-abbrev beginning : List ℕ
+abbrev pub beginning : List ℕ
 beginning = (1 ∷ body) ++ (2 ∷ 14 ∷ 0 ∷ 1 ∷ 1 ∷ 0 ∷ 0 ∷ 0 ∷ 0 ∷ 0 ∷ 240 ∷ 255 ∷ 255 ∷ 0 ∷ 16 ∷ 0 ∷ 0 ∷ [])
 
 -- a check with a 4096 and a bound whose lowest byte and next are these: 255 255 is -16,777,217, 0 0 with 255 is -16,777,216
-abbrev checked : List ℕ → List ℕ
+abbrev pub checked : List ℕ → List ℕ
 checked bound = (7 ∷ 14 ∷ 0 ∷ 1 ∷ 1 ∷ 0 ∷ 16 ∷ 0 ∷ 0 ∷ []) ++ bound
 
-abbrev below : List ℕ
+abbrev pub below : List ℕ
 below = 255 ∷ 255 ∷ 255 ∷ 254 ∷ 255 ∷ 255 ∷ 255 ∷ 255 ∷ []
 
-abbrev equal : List ℕ
+abbrev pub equal : List ℕ
 equal = 0 ∷ 0 ∷ 0 ∷ 255 ∷ 255 ∷ 255 ∷ 255 ∷ 255 ∷ []
 
 abbrev line : ℕ → ℤ → ℤ → Answer

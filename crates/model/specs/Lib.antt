@@ -7,6 +7,7 @@
 --     Bytes, Body  numbers in a run file, and what the body of a field says
 --     Field        the kinds of field: what each asks and gives
 --     Run          the state, the refusals in their order, one field, a list of fields, a whole input
+--     Text         what the program prints: numbers, lines, the output of a whole input
 --     Library      single operations on records: their refusals in order
 --     Pairs        the order of a step's pairs
 --     Marked       the table of marked cases
@@ -23,6 +24,7 @@ pub mod Bytes
 pub mod Body
 pub mod Field
 pub mod Run
+pub mod Text
 pub mod Library
 pub mod Pairs
 pub mod Marked

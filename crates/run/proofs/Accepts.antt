@@ -16,9 +16,9 @@ use Rattle.model.specs.Field.{Kind, start, step, disturbance, independent, tied
 use Rattle.model.specs.Run as Run
 use Rattle.model.specs.Run.{tag, body, kindOf, misplaced, cut, current, meant, refusal, accepted, outcome}
 use Rattle.model.proofs.Accepted.{no-refusal}
-use Rattle.run.specs.declared.Outcome.{Outcome}
-use Rattle.run.specs.declared.Outcome.the-variants.{Inside, Safe}
-use Rattle.run.specs.Answer.{outcomeOf, boxOf, accepts}
+use Rattle.states.specs.declared.Outcome.{Outcome}
+use Rattle.states.specs.declared.Outcome.the-variants.{Inside, Safe}
+use Rattle.states.specs.Answer.{outcomeOf, boxOf, accepts}
 
 -- ---- a field that is accepted has a kind
 known-tag : (t : ℕ) → 1 ≤ t → t ≤ 7 → kindOf t ≡ unknown → ⊥

@@ -22,10 +22,10 @@ use Rattle.model.proofs.Sound.{after-sound}
 use Rattle.model.proofs.Enclosed as Over
 use Rattle.zonotope.specs.declared.PolyZonotope.{PolyZonotope}
 use Rattle.zonotope.specs.Record.{view, pack}
-use Rattle.run.specs.declared.State.{State}
-use Rattle.run.specs.declared.Fielded.{Fielded}
-use Rattle.run.specs.State.{beginning, left}
-use Rattle.run.specs.Answer.{outcomeOf, boxOf, answerOf, accepts}
+use Rattle.states.specs.declared.State.{State}
+use Rattle.states.specs.declared.Fielded.{Fielded}
+use Rattle.states.specs.State.{beginning, left}
+use Rattle.states.specs.Answer.{outcomeOf, boxOf, answerOf, accepts}
 use Rattle.run.specs.Enclosed.{Moment, begun, follow, InEnds, Kept, Always, Enclosed}
 use Rattle.run.proofs.Reached.{Beside, begin-beside, left-beside, means, fielded-is}
 use Rattle.run.proofs.Accepts.{accepts-is, inside-is, safe-is}

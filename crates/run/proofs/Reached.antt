@@ -23,10 +23,12 @@ use Rattle.zonotope.specs.Record.{view, pack, spare, given}
 use Rattle.zonotope.specs.Shape.{Shaped}
 use Rattle.zonotope.specs.Answer.{orElse, first-append}
 use Rattle.zonotope.proofs.ViewPack.{view-pack, spare-pack}
-use Rattle.run.specs.declared.State.{State}
-use Rattle.run.specs.State.{viewed, beginning, left, ofState, unfit}
-use Rattle.run.specs.Answer.{answerOf}
-use Rattle.run.specs.Field.{taken, returned, fielded}
+use Rattle.states.specs.declared.State.{State}
+use Rattle.states.specs.State.{viewed, beginning, left}
+use Rattle.run.specs.Unfit.{unfit}
+use Rattle.states.specs.Answer.{answerOf}
+use Rattle.states.specs.Taken.{taken}
+use Rattle.run.specs.Field.{returned, fielded}
 
 -- ---- the record of a valid set
 shaped : {m : Zonotope} → Shape.Shaped m → Shaped m

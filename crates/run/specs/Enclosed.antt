@@ -15,13 +15,13 @@ use Rattle.model.specs.Run.{tag, body, kindOf, firstField}
 use Rattle.model.specs.Points.{Vector, Point}
 use Rattle.model.specs.Motion.{Picks, Allowed, move, valuesAfter, markAfter, Unsafe}
 use Rattle.zonotope.specs.Record.{view}
-use Rattle.run.specs.declared.State.{State}
-use Rattle.run.specs.declared.Outcome.{Outcome}
-use Rattle.run.specs.declared.Outcome.the-variants.{Inside, Safe}
-use Rattle.run.specs.declared.Answer.{Answer}
-use Rattle.run.specs.declared.Fielded.{Fielded}
-use Rattle.run.specs.State.{beginning}
-use Rattle.run.specs.Answer.{accepts}
+use Rattle.states.specs.declared.State.{State}
+use Rattle.states.specs.declared.Outcome.{Outcome}
+use Rattle.states.specs.declared.Outcome.the-variants.{Inside, Safe}
+use Rattle.states.specs.declared.Answer.{Answer}
+use Rattle.states.specs.declared.Fielded.{Fielded}
+use Rattle.states.specs.State.{beginning}
+use Rattle.states.specs.Answer.{accepts}
 use Rattle.run.specs.Field.{fielded}
 
 -- a motion beside the state that the last call returned; the mark is the motion's own count of the accepted bodies

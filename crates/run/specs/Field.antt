@@ -1,18 +1,14 @@
--- One field: the answer and the state that it leaves.
+-- One field: the answer and the state that it leaves, whatever state is given.
 use mathlib.Core.List.{List}
 use mathlib.Core.Option.{Option, none, some}
 use mathlib.Core.Bool.{Bool}
 use Prim.Native.Nat.{ℕ}
-use lib.ListN.{length}
-use Rattle.model.specs.Run.{firstField, answer, after}
-use Rattle.run.specs.declared.State.{State}
-use Rattle.run.specs.declared.Fielded.{Fielded}
-use Rattle.run.specs.State.{viewed, left, unfit}
-use Rattle.run.specs.Answer.{answerOf, unfitAnswer}
-
--- the field f at this place, given to a state of a run
-unfoldable pub taken : ℕ → State → List ℕ → Fielded
-taken place st f = record { answer = answerOf (answer place (viewed st) f) (length f); state = left st (after (viewed st) f) }
+use Rattle.model.specs.Run.{firstField}
+use Rattle.states.specs.declared.State.{State}
+use Rattle.states.specs.declared.Fielded.{Fielded}
+use Rattle.states.specs.Answer.{unfitAnswer}
+use Rattle.states.specs.Taken.{taken}
+use Rattle.run.specs.Unfit.{unfit}
 
 -- what a call returns: what it takes, or where it is refused with a number, the state as it came
 abbrev pub returned : Option ℕ → State → Fielded → Fielded

@@ -2,7 +2,7 @@
 use mathlib.Core.Path.{ap}
 use Rattle.model.specs.Limits.{firstFresh}
 use Rattle.zonotope.specs.declared.PolyZonotope.{PolyZonotope}
-use Rattle.run.specs.declared.State.{State}
+use Rattle.states.specs.declared.State.{State}
 use Rattle.run.proofs.begin.Statement.{statement}
 use Rattle.run.proofs.begin.Tie as tie
 use mathlib.Core.Bool.{false}

@@ -9,9 +9,9 @@ use Rattle.model.specs.Operations.{Box}
 use Rattle.model.specs.Field as Model
 use Rattle.model.specs.Field.{inside, verdict, refused, skipped}
 use Rattle.model.specs.Run as Run
-use Rattle.run.specs.declared.Outcome.{Outcome}
-use Rattle.run.specs.declared.Outcome.the-variants.{Inside, Safe, Unknown, Refused, Skipped, Unfit}
-use Rattle.run.specs.declared.Answer.{Answer}
+use Rattle.states.specs.declared.Outcome.{Outcome}
+use Rattle.states.specs.declared.Outcome.the-variants.{Inside, Safe, Unknown, Refused, Skipped, Unfit}
+use Rattle.states.specs.declared.Answer.{Answer}
 
 -- the case of an outcome
 abbrev pub outcomeOf : Model.Outcome → Outcome

@@ -1,0 +1,3 @@
+-- What the contracts cite.
+--     Put   a line put at the start of a slice that has room for it
+pub mod Put

@@ -1,0 +1,7 @@
+-- The state of a run and its answers as records.
+--     State   what a state means, and what a field leaves
+--     Answer  document 01's number and values for each case of an answer
+--     Taken   one field given to a state of a run
+pub mod State
+pub mod Answer
+pub mod Taken

@@ -1,0 +1,65 @@
+// The lines that a run prints, each written into a lent slice from the place `at` on. The slice has room for the longest line; the
+// answer is the place after the line.
+ghost use Prim.Native.Nat.{_+_, _≤_};
+ghost use lib.ListN.{length};
+ghost use Rattle.model.specs.Text.{boxLine, verdictLine, refusalLine, endLine};
+ghost use Rattle.text.specs.Appended.{Appended};
+ghost use Rattle.text.specs.Pieces.{firsts};
+ghost use Rattle.text.specs.Lines.{longestLine};
+
+pub mod words;
+
+// No line is longer.
+pub const LONGEST_LINE: usize = 320;
+
+// The line of an accepted field that leaves a set: the ends of the first n coordinates of its box.
+pub fn box_line(
+    out: &mut [u8],
+    at: usize,
+    field: usize,
+    tag: u8,
+    n: usize,
+    low: &[i64; 6],
+    high: &[i64; 6],
+) -> usize
+    requires { ⌜ (n ≤ 6) × (at + longestLine ≤ length (now out)) ⌝ }
+    ensures { λ r. ⌜ Appended longestLine (now (out .entry)) (now (out .exit)) at r
+        (boxLine field tag (firsts n (now (low .entry))) (firsts n (now (high .entry)))) ⌝ }
+{
+    let a = words::append_number(out, at, field as u64);
+    let b = words::append_item(out, a, whole::widen_u8(tag));
+    let c = words::append_ends(out, b, n, low, high);
+    words::append(out, c, b"\n")
+}
+
+// The line of an accepted check.
+pub fn verdict_line(out: &mut [u8], at: usize, field: usize, tag: u8, safe: bool) -> usize
+    requires { ⌜ at + longestLine ≤ length (now out) ⌝ }
+    ensures { λ r. ⌜ Appended longestLine (now (out .entry)) (now (out .exit)) at r (verdictLine field tag safe) ⌝ }
+{
+    let a = words::append_number(out, at, field as u64);
+    let b = words::append_item(out, a, whole::widen_u8(tag));
+    words::append_verdict(out, b, safe)
+}
+
+// The line of a refused field whose first byte is at `place`.
+pub fn refusal_line(out: &mut [u8], at: usize, field: usize, number: u8, place: usize) -> usize
+    requires { ⌜ at + longestLine ≤ length (now out) ⌝ }
+    ensures { λ r. ⌜ Appended longestLine (now (out .entry)) (now (out .exit)) at r (refusalLine field number place) ⌝ }
+{
+    let a = words::append_number(out, at, field as u64);
+    let b = words::append(out, a, b" refused");
+    let c = words::append_item(out, b, whole::widen_u8(number));
+    let d = words::append_item(out, c, place as u64);
+    words::append(out, d, b"\n")
+}
+
+// The last line of a run in which no field was refused: the number of the last one.
+pub fn end_line(out: &mut [u8], at: usize, field: usize) -> usize
+    requires { ⌜ at + longestLine ≤ length (now out) ⌝ }
+    ensures { λ r. ⌜ Appended longestLine (now (out .entry)) (now (out .exit)) at r (endLine field) ⌝ }
+{
+    let a = words::append(out, at, b"end");
+    let b = words::append_item(out, a, field as u64);
+    words::append(out, b, b"\n")
+}
