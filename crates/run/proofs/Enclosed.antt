@@ -18,21 +18,20 @@ use Rattle.model.specs.Points.{Vector, Point}
 use Rattle.model.specs.Motion as Motion
 use Rattle.model.specs.Motion.{Picks, Allowed, InBox, move, valuesAfter, markAfter}
 use Rattle.model.proofs.Shape.{counted}
-use Rattle.model.proofs.Sound.{after-sound}
+use Rattle.model.proofs.Sound.{Sound, begin-sound, after-sound}
 use Rattle.model.proofs.Enclosed as Over
-use Rattle.zonotope.specs.declared.PolyZonotope.{PolyZonotope}
 use Rattle.zonotope.specs.Record.{view, pack}
-use Rattle.states.specs.declared.State.{State}
 use Rattle.states.specs.declared.Fielded.{Fielded}
-use Rattle.states.specs.State.{beginning, left}
+use Rattle.states.specs.State.{recordOf}
 use Rattle.states.specs.Answer.{outcomeOf, boxOf, answerOf, accepts}
 use Rattle.run.specs.Enclosed.{Moment, begun, follow, InEnds, Kept, Always, Enclosed}
-use Rattle.run.proofs.Reached.{Beside, begin-beside, left-beside, means, fielded-is}
+use Rattle.states.specs.Recorded.{means}
+use Rattle.run.proofs.Reached.{fielded-is}
 use Rattle.run.proofs.Accepts.{accepts-is, inside-is, safe-is}
 
--- what a call returns beside the definitions' state u
-abbrev given : ℕ → State → Model.State → List ℕ → Fielded
-given place st u f = record { answer = answerOf (answer place u f) (length f); state = left st (after u f) }
+-- what a call with the record of u returns
+abbrev given : ℕ → Model.State → List ℕ → Fielded
+given place u f = record { answer = answerOf (answer place u f) (length f); state = recordOf (after u f) }
 
 -- the box of the definitions is the one that stands in the answer
 in-ends : {n : ℕ} {x : Vector} (a : Model.Answer) (bytes : ℕ) → n ≤ 6 → InBox n x (boxOf (a .outcome)) → InEnds n x (answerOf a bytes)
@@ -56,24 +55,23 @@ counts u f = go (u .over) (refusal u f)
     go false none t = omega arith
     go false (some n) t = absurd t
 
--- the motion beside a state of the definitions, beside the record of that state
-abbrev alongside : State → Motion.Moment → Moment
-alongside st now = record { state = st; mark = now .mark; values = now .values; position = now .position }
+-- the motion beside the record of its state
+abbrev alongside : Motion.Moment → Moment
+alongside now = record { state = recordOf (now .state); mark = now .mark; values = now .values; position = now .position }
 
-module _ {st : State} (p : Picks) (m place : ℕ) (now : Motion.Moment) (b : Beside st (now .state)) (f : List ℕ) where
+module _ (p : Picks) (m place : ℕ) (now : Motion.Moment) (s : Sound (now .state)) (f : List ℕ) where
   -- a motion goes the same way
-  follow-is : follow p m (alongside st now) f (given place st (now .state) f)
-      ≡ alongside (left st (after (now .state) f)) (Motion.follow p m now f)
+  follow-is : follow p m (alongside now) f (given place (now .state) f) ≡ alongside (Motion.follow p m now f)
   unfolding follow Motion.follow answerOf
   follow-is = go (accepts (outcomeOf (outcome place (now .state) f))) (accepted (now .state) f) (accepts-is place (now .state) f)
     where
       go : (x y : Bool) → x ≡ y → _≡_ {A = Moment} (record {
-        state = left st (after (now .state) f);
+        state = recordOf (after (now .state) f);
         mark = cond x (markAfter (kindOf (tag f)) (body f) (now .mark)) (now .mark);
         values = cond x (valuesAfter (kindOf (tag f)) (body f) p m (now .mark) (now .values)) (now .values);
         position = cond x (move (kindOf (tag f)) (body f) p m (now .position)) (now .position);
       }) (record {
-        state = left st (after (now .state) f);
+        state = recordOf (after (now .state) f);
         mark = cond y (markAfter (kindOf (tag f)) (body f) (now .mark)) (now .mark);
         values = cond y (valuesAfter (kindOf (tag f)) (body f) p m (now .mark) (now .values)) (now .values);
         position = cond y (move (kindOf (tag f)) (body f) p m (now .position)) (now .position);
@@ -82,35 +80,32 @@ module _ {st : State} (p : Picks) (m place : ℕ) (now : Motion.Moment) (b : Bes
 
   -- what holds of the definitions holds of the records
   kept : T (accepted (now .state) f) → Motion.Kept (now .state) f (Motion.follow p m now f)
-      → Kept f (given place st (now .state) f) (alongside (left st (after (now .state) f)) (Motion.follow p m now f))
+      → Kept f (given place (now .state) f) (alongside (Motion.follow p m now f))
   unfolding Motion.follow answerOf pack
   kept t k =
-      let u = now .state in let v = after u f in let then = Motion.follow p m now f in
-      let some = counts u f t in
-      let set-is = left-beside b f .packed some in
-      let valid = after-sound (b .sound) f .valid some in
+      let u = now .state in let then = Motion.follow p m now f in
+      let valid = after-sound s f .valid (counts u f t) in
       record {
-        in-set = subst (λ s. Point s (then .values) (then .position)) (sym (ap view set-is ∙ means valid)) (k .in-set);
-        in-box = λ e. subst (λ n. InEnds n (then .position) (answerOf (answer place u f) (length f)))
-            (sym (ap (λ (s : PolyZonotope). s .dimension) set-is))
-            (in-ends (answer place u f) (length f) (counted _ (valid .counts) .dimension-few) (k .in-box place _ (inside-is (outcome place u f) e)));
+        in-set = subst (λ s. Point s (then .values) (then .position)) (sym (means valid)) (k .in-set);
+        in-box = λ e. in-ends (answer place u f) (length f) (counted _ (valid .counts) .dimension-few)
+            (k .in-box place _ (inside-is (outcome place u f) e));
         not-unsafe = λ e. k .not-unsafe place (safe-is (outcome place u f) e);
       }
 
-always : (p : Picks) (places : ℕ → ℕ) (rests : List (List ℕ)) (m : ℕ) (now : Motion.Moment) (st : State) → Beside st (now .state)
-    → Motion.Always p m now (map firstField rests) → Always p places m (alongside st now) rests
+always : (p : Picks) (places : ℕ → ℕ) (rests : List (List ℕ)) (m : ℕ) (now : Motion.Moment) → Sound (now .state)
+    → Motion.Always p m now (map firstField rests) → Always p places m (alongside now) rests
 unfolding Always Motion.Always Motion.follow answerOf
-always p places [] m now st b h = tt
-always p places (rest ∷ rests) m now st b h =
+always p places [] m now s h = tt
+always p places (rest ∷ rests) m now s h =
     let f = firstField rest in let u = now .state in
-    subst (λ r. (T (accepts (r .answer .outcome)) → Kept f r (follow p m (alongside st now) f r))
-    × Always p places (suc m) (follow p m (alongside st now) f r) rests) (sym (fielded-is b (places m) rest))
-    (subst (λ then. (T (accepts (given (places m) st u f .answer .outcome)) → Kept f (given (places m) st u f) then)
-    × Always p places (suc m) then rests) (sym (follow-is p m (places m) now b f)) (
-      λ t. let a = subst T (accepts-is (places m) u f) t in kept p m (places m) now b f a (h .0 a),
-      always p places rests (suc m) (Motion.follow p m now f) (left st (after u f)) (left-beside b f) (h .1),
+    subst (λ r. (T (accepts (r .answer .outcome)) → Kept f r (follow p m (alongside now) f r))
+    × Always p places (suc m) (follow p m (alongside now) f r) rests) (sym (fielded-is s (places m) rest))
+    (subst (λ then. (T (accepts (given (places m) u f .answer .outcome)) → Kept f (given (places m) u f) then)
+    × Always p places (suc m) then rests) (sym (follow-is p m (places m) now s f)) (
+      λ t. let a = subst T (accepts-is (places m) u f) t in kept p m (places m) now s f a (h .0 a),
+      always p places rests (suc m) (Motion.follow p m now f) (after-sound s f) (h .1),
     ))
 
 -- Demand 3.
 pub enclosed : Enclosed
-enclosed rests places p a = always p places rests 0 (Motion.beginning p) beginning begin-beside (Over.enclosed (map firstField rests) p a)
+enclosed rests places p a = always p places rests 0 (Motion.beginning p) begin-sound (Over.enclosed (map firstField rests) p a)

@@ -17,6 +17,10 @@ viewed st = record {
   over = st .over;
 }
 
+-- the record of a state
+abbrev pub recordOf : Model.State → State
+recordOf u = record { set = pack (current u); next = u .next; count = u .count; over = u .over }
+
 -- the state with which a run begins
 abbrev pub beginning : State
 beginning = record { set = pack noSet; next = firstFresh; count = 0; over = false }
