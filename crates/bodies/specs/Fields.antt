@@ -11,7 +11,8 @@ use lib.IntN.{ℤ}
 use Rattle.whole.specs.Tab.{tab}
 use Rattle.model.specs.Limits.{maxTerms, maxGenerators, maxHalfspaces}
 use Rattle.model.specs.Bytes.{word, words, long}
-use Rattle.model.specs.Body.{dimension, stepRows, stepColumns, stepLength, givenStep, termLimit, generatorLimit, halfspaceCount, halfspaceAt}
+use Rattle.model.specs.Body.{dimension, stepRows, stepColumns, stepLength, givenStep, termLimit, generatorLimit}
+use Rattle.model.specs.Body.{halfspaceCount, halfspaceAt}
 use Rattle.model.specs.Field.{badDimension}
 
 module _ (b : List ℕ) where
