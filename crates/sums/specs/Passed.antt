@@ -14,7 +14,7 @@ use Rattle.model.specs.Set.{Zonotope}
 use Rattle.model.specs.Valid.{badCounts, badRange, badOrder, tooWide}
 use Rattle.model.specs.Field.{badDimension, differs}
 use Rattle.model.specs.Run.{firstOf}
-use Rattle.model.specs.Library.{ofSecond, badNext, examine}
+use Rattle.model.specs.Library.{ofSecond, ofRadii, ofLimits, badNext, examine}
 use Rattle.zonotope.specs.declared.PolyZonotope.{PolyZonotope}
 use Rattle.zonotope.specs.declared.Examined.the-variants as Accept
 use Rattle.zonotope.specs.declared.Examined.the-variants.{Refused}
@@ -26,7 +26,7 @@ use Rattle.answers.specs.Order.{neither}
 use Rattle.answers.specs.Accepted.{Accepted, equal}
 use Rattle.summing.specs.Disturb.{Disturbable}
 use Rattle.summing.specs.Summable.{Summable, Next}
-use Rattle.sums.specs.Causes.{ofRadii, beforeDisturbing, ofLimits, beforeReducing, beforeSumming, ofNext}
+use Rattle.sums.specs.Causes.{beforeDisturbing, beforeReducing, beforeSumming, ofNext}
 
 -- a set and radii
 pub disturbable : (s : PolyZonotope) (n : ℕ) (radii : List ℕ) → Sized s → beforeDisturbing n radii (given s) ≡ none → Disturbable s radii
