@@ -1,16 +1,14 @@
 -- Calls chain: the record of a valid set is accepted by the next call, and the places that its counts leave unused are 0.
 use mathlib.Core.Path.{_≡_, refl, sym, ap, _∙_}
-use mathlib.Core.List.{List, _++_}
 use mathlib.Core.Option.{Option, none, some}
 use mathlib.Core.Bool.{false}
 use Prim.Native.Nat.{ℕ, suc}
 use native.Mathlib.Omega.{arith}
-use Rattle.rational.specs.Sum.{All, All-imp}
+use Rattle.rational.specs.Sum.{All-imp}
 use Rattle.model.specs.Limits.{recordIdentifiers}
 use Rattle.model.specs.Set.{Zonotope}
-use Rattle.model.specs.Run.{Cause, firstOf}
-use Rattle.model.specs.Library.{ofFirst, examine}
-use Rattle.model.proofs.Tests.{no-cause}
+use Rattle.model.specs.Run.{firstOf}
+use Rattle.model.specs.Library.{examine}
 use Rattle.model.proofs.Shape as Model
 use Rattle.model.proofs.Shape.{ranged}
 use Rattle.model.proofs.Held.{Held, held, held-valid}
@@ -18,12 +16,11 @@ use Rattle.zonotope.specs.declared.PolyZonotope.{PolyZonotope}
 use Rattle.zonotope.specs.declared.Examined.the-variants.{Accepted}
 use Rattle.zonotope.specs.Record.{view, pack, spare, given}
 use Rattle.zonotope.specs.Shape.{Shaped}
-use Rattle.zonotope.specs.Valid.{valid}
-use Rattle.zonotope.specs.Answer.{refused, first-append}
+use Rattle.zonotope.specs.Valid.{Valid}
+use Rattle.zonotope.specs.Answer.{refused}
 use Rattle.zonotope.proofs.ViewPack.{view-pack, spare-pack}
 use Rattle.answers.specs.declared.Changed.{Changed}
 use Rattle.answers.specs.Answer.{answered}
-use Rattle.answers.specs.Order.{neither}
 use Rattle.answers.specs.Accepted.{view-shaped}
 
 -- a record that a call accepts, with 0 in every place that its counts leave unused
@@ -57,14 +54,9 @@ answer-chained (some n) s m v p e = refused n (ap (λ (x : Changed). x .outcome)
 
 -- ---- between what a call accepts and what a run holds
 -- what an accepted record means is valid
-pub accepted-valid : (s : PolyZonotope) → examine (given s) ≡ none → Model.Valid recordIdentifiers (view s)
-accepted-valid s e = let v = valid (given s) e in record {
-  shaped = view-shaped s;
-  counts = v .counts;
-  ranges = v .range;
-  ordered = v .order;
-  narrow = v .narrow;
-}
+pub accepted-valid : (s : PolyZonotope) → Valid (given s) → Model.Valid recordIdentifiers (view s)
+accepted-valid s v =
+    record { shaped = view-shaped s; counts = v .counts; ranges = v .range; ordered = v .order; narrow = v .narrow }
 
 -- a valid set is held below the first identifier that no record has, and back
 pub valid-held : {m : Zonotope} → Model.Valid recordIdentifiers m → Held (suc recordIdentifiers) m
@@ -72,11 +64,3 @@ valid-held {m} v = held (suc recordIdentifiers) v (All-imp (λ k h. omega (arith
 
 pub held-again : {m : Zonotope} → Held (suc recordIdentifiers) m → Model.Valid recordIdentifiers m
 held-again h = held-valid h (omega arith)
-
--- a set that is asked first passed, and so did what is asked after it
-pub first-passed : (s : PolyZonotope) (k : List Cause) → firstOf (ofFirst (given s) ++ k) ≡ none
-    → Model.Valid recordIdentifiers (view s) × All (λ c. c .holds ≡ false) k
-unfolding examine
-first-passed s k e =
-    let n = neither (examine (given s)) (firstOf k) (sym (first-append (ofFirst (given s)) k) ∙ e) in
-    (accepted-valid s (n .0), no-cause k (n .1))

@@ -19,7 +19,7 @@ use Rattle.zonotope.specs.declared.PolyZonotope.{PolyZonotope}
 use Rattle.zonotope.specs.declared.Examined.{Examined}
 use Rattle.zonotope.specs.Record.{given}
 use Rattle.zonotope.specs.Shape.{Sized}
-use Rattle.zonotope.specs.Valid.{valid, passed}
+use Rattle.zonotope.specs.Valid.{Valid, valid, passed}
 use Rattle.whole.specs.Tests.{or-left, or-right}
 use Rattle.zonotope.specs.Answer.{examined, orElse, first-append}
 use Rattle.image.specs.StepAccepted.{StepAccepted}
@@ -96,19 +96,29 @@ pub record Acceptable (s : PolyZonotope) (p : Step) (numbers exponents : ℕ) : 
   pub numbers-room : workNumbers ≤ numbers
   pub exponents-room : workExponents ≤ exponents
 
+pub step-in : (p : Step) (dimension : ℕ) → firstOf (ofStep p dimension) ≡ none → StepAccepted p
+unfolding firstOf
+step-in p dimension e =
+    let counts = passed (badStepCounts p) 4 e in
+    let lengths = passed (badStepLengths p) 3 (counts .1) in
+    let range = passed (badStepRange p) 6 (passed (differs (p .columns) dimension) 5 (lengths .1) .1) in
+    record { counts = counts .0; lengths = lengths .0; range = range .0 }
+
+-- what a step with an accepted set passed
+pub set-and-step-in : (s : PolyZonotope) (p : Step) (short : Bool) → beforeStepping short p (given s) ≡ none
+    → (short ≡ false) × Valid (given s) × StepAccepted p
+set-and-step-in s p short e =
+    let room = passed short 13 e in
+    let parts = neither (examine (given s)) (firstOf (ofStep p (given s .set .dimension))) (room .1) in
+    (room .0, valid (given s) (parts .0), step-in p (given s .set .dimension) (parts .1))
+
 pub acceptable : (s : PolyZonotope) (p : Step) (numbers exponents : ℕ) → Sized s
     → beforeStepping (noRoom numbers exponents) p (given s) ≡ none → Acceptable s p numbers exponents
-unfolding firstOf
 acceptable s p numbers exponents z e =
-    let room = passed (noRoom numbers exponents) 13 e in
-    let parts = neither (examine (given s)) (firstOf (ofStep p (given s .set .dimension))) (room .1) in
-    let counts = passed (badStepCounts p) 4 (parts .1) in
-    let lengths = passed (badStepLengths p) 3 (counts .1) in
-    let dimension = passed (differs (p .columns) (given s .set .dimension)) 5 (lengths .1) in
-    let range = passed (badStepRange p) 6 (dimension .1) in
+    let parts = set-and-step-in s p (noRoom numbers exponents) e in
     record {
-      set = record { sized = z; passed = valid (given s) (parts .0) };
-      step = record { counts = counts .0; lengths = lengths .0; range = range .0 };
-      numbers-room = ltb-false numbers workNumbers (or-left (ltb numbers workNumbers) (ltb exponents workExponents) (room .0));
-      exponents-room = ltb-false exponents workExponents (or-right (ltb numbers workNumbers) (ltb exponents workExponents) (room .0));
+      set = record { sized = z; passed = parts .1 };
+      step = parts .2;
+      numbers-room = ltb-false numbers workNumbers (or-left (ltb numbers workNumbers) (ltb exponents workExponents) (parts .0));
+      exponents-room = ltb-false exponents workExponents (or-right (ltb numbers workNumbers) (ltb exponents workExponents) (parts .0));
     }

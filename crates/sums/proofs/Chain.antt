@@ -1,110 +1,80 @@
 -- Calls chain: the set of an answer that accepts is accepted by the next call, and the places that its counts leave unused are 0.
 use mathlib.Core.Path.{_≡_, sym, _∙_}
-use mathlib.Core.List.{List, [], _∷_, _++_}
+use mathlib.Core.List.{List}
 use mathlib.Core.Option.{none}
-use mathlib.Core.Bool.{false, not, _||_}
-use Prim.Native.Nat.{ℕ, _≤_, _<_}
+use Prim.Native.Nat.{ℕ}
 use native.Mathlib.Omega.{arith}
-use borrow.Author.Tests.{ltb-true, ltb-false, not-false}
-use lib.Dec.{ltb}
-use lib.ListN.{length}
-use Rattle.rational.specs.Sum.{All, more, All-imp}
-use Rattle.whole.specs.Tab.{any}
-use Rattle.whole.specs.Tests.{or-left, or-right}
-use Rattle.model.specs.Limits.{maxTerms, maxGenerators, recordIdentifiers, firstFresh, lastFresh, standardWeights}
-use Rattle.model.specs.Set.{Zonotope}
-use Rattle.model.specs.Valid.{badOrder, tooWide}
-use Rattle.model.specs.Field.{tooMany}
+use Rattle.model.specs.Limits.{recordIdentifiers, standardWeights}
 use Rattle.model.specs.Operations.{disturb, reduce, tiedSum, independentSum, renumbered}
-use Rattle.model.specs.Run.{Cause, _if_}
-use Rattle.model.specs.Library.{ofSecond, ofRadii, ofLimits, badNext, disturbRefusal, reduceRefusal, tiedRefusal, independentRefusal}
-use Rattle.model.proofs.Tests.{any-false}
+use Rattle.model.specs.Run.{firstOf}
+use Rattle.model.specs.Library.{ofSecond, ofRadii, ofLimits, examine, disturbRefusal, reduceRefusal, tiedRefusal, independentRefusal}
 use Rattle.model.proofs.Shape.{Valid, counted}
 use Rattle.model.proofs.Held.{held, held-valid, valid-ready, disturb-held, reduce-held, sum-held, independent-held}
 use Rattle.zonotope.specs.declared.PolyZonotope.{PolyZonotope}
 use Rattle.zonotope.specs.declared.Examined.the-variants.{Accepted}
-use Rattle.zonotope.specs.Record.{view, spare, given}
+use Rattle.zonotope.specs.Record.{view, given}
+use Rattle.zonotope.specs.Valid.{valid}
+use Rattle.zonotope.specs.Answer.{orElse}
 use Rattle.answers.specs.declared.Changed.{Changed}
-use Rattle.answers.specs.Answer.{answered}
-use Rattle.answers.specs.Accepted.{equal, view-shaped}
-use Rattle.answers.specs.Chain.{Usable, answer-chained, valid-held, held-again, first-passed}
-
--- causes none of which holds
-abbrev Passed : List Cause → Type 0
-Passed k = All (λ c. c .holds ≡ false) k
+use Rattle.answers.specs.Answer.{answered, ofResult, result-narrow}
+use Rattle.answers.specs.Order.{neither}
+use Rattle.answers.specs.Chain.{Usable, answer-chained, accepted-valid, valid-held, held-again}
+use Rattle.summing.specs.Summable.{ofFactors, factors-in}
+use Rattle.sums.specs.Causes.{beforeDisturbing, beforeReducing, beforeSumming, ofNext}
+use Rattle.sums.specs.Causes.{disturb-order, reduce-order, tied-order, independent-order}
+use Rattle.sums.specs.Passed.{radii-in, limits-in, second-in, next-above}
 
 -- ---- where no cause refuses, the result is valid
 disturb-valid : (s : PolyZonotope) (n : ℕ) (radii : List ℕ) → disturbRefusal n radii (given s) ≡ none
     → Valid recordIdentifiers (disturb radii (view s))
-unfolding disturbRefusal
-disturb-valid s n radii e = go (first-passed s _ e)
-  where
-    go : Valid recordIdentifiers (view s) × Passed (ofRadii n radii (view s .dimension) ++ ((10 if tooWide (disturb radii (view s))) ∷ []))
-        → Valid recordIdentifiers (disturb radii (view s))
-    go (v, more count (more lengths (more dimension (more range (more width t))))) =
-        held-again (disturb-held (valid-held v) radii (equal (length radii) n lengths ∙ equal n (view s .dimension) dimension) width)
+disturb-valid s n radii e =
+    let m = disturb radii (view s) in
+    let all = neither (beforeDisturbing n radii (given s)) (ofResult m) (sym (disturb-order n radii (given s)) ∙ e) in
+    let first = neither (examine (given s)) (firstOf (ofRadii n radii (view s .dimension))) (all .0) in
+    held-again (disturb-held (valid-held (accepted-valid s (valid (given s) (first .0)))) radii
+    (radii-in n radii (view s .dimension) (first .1) .0) (result-narrow m (all .1)))
 
 reduce-valid : (s : PolyZonotope) (h q : ℕ) → reduceRefusal h q (given s) ≡ none
     → Valid recordIdentifiers (reduce standardWeights h q (view s))
-unfolding reduceRefusal
-reduce-valid s h q e = go (first-passed s _ e)
-  where
-    go : Valid recordIdentifiers (view s) × Passed (ofLimits h q ++ ((10 if tooWide (reduce standardWeights h q (view s))) ∷ []))
-        → Valid recordIdentifiers (reduce standardWeights h q (view s))
-    go (v, more limits (more width t)) =
-        held-again (reduce-held standardWeights (valid-held v)
-        (ltb-false maxTerms h (or-left (ltb maxTerms h) (ltb maxGenerators q) limits))
-        (ltb-false maxGenerators q (or-right (ltb maxTerms h) (ltb maxGenerators q) limits)) width)
-
--- what a second set passed, and what is asked after it
-record Second (a b : PolyZonotope) (k : List Cause) : Type 0 where
-  pub set : Valid recordIdentifiers (view b)
-  pub same : view b .dimension ≡ view a .dimension
-  pub rest : Passed k
-
-second-passed : (a b : PolyZonotope) (k : List Cause) → Passed (ofSecond (given a) (given b) ++ k) → Second a b k
-second-passed a b k (more counts (more dimension (more range (more order (more narrow rest))))) = record {
-  set = record {
-    shaped = view-shaped b;
-    counts = counts;
-    ranges = range;
-    ordered = or-right (spare b) (badOrder (view b)) order;
-    narrow = narrow;
-  };
-  same = equal (view b .dimension) (view a .dimension) dimension;
-  rest = rest;
-}
+reduce-valid s h q e =
+    let m = reduce standardWeights h q (view s) in
+    let all = neither (beforeReducing h q (given s)) (ofResult m) (sym (reduce-order h q (given s)) ∙ e) in
+    let first = neither (examine (given s)) (firstOf (ofLimits h q)) (all .0) in
+    let l = limits-in h q (first .1) in
+    held-again (reduce-held standardWeights (valid-held (accepted-valid s (valid (given s) (first .0)))) (l .0) (l .1)
+    (result-narrow m (all .1)))
 
 tied-valid : (a b : PolyZonotope) → tiedRefusal (given a) (given b) ≡ none
     → Valid recordIdentifiers (tiedSum standardWeights (view a) (view b))
-unfolding tiedRefusal
-tied-valid a b e = let p = first-passed a _ e in let o = second-passed a b _ (p .1) in go (p .0) (o .set) (o .same) (o .rest)
-  where
-    go : Valid recordIdentifiers (view a) → Valid recordIdentifiers (view b) → view b .dimension ≡ view a .dimension
-        → Passed ((9 if tooMany (view a) (view b)) ∷ (10 if tooWide (tiedSum standardWeights (view a) (view b))) ∷ [])
-        → Valid recordIdentifiers (tiedSum standardWeights (view a) (view b))
-    go v u d (more few (more width t)) =
-        held-again (sum-held standardWeights (valid-held v) (valid-ready u) d (valid-held u .identifiers-in) few width)
+tied-valid a b e =
+    let m = tiedSum standardWeights (view a) (view b) in
+    let factors = ofFactors (view a) (view b) in
+    let all = neither (beforeSumming (given a) (given b)) (orElse factors (ofResult m)) (sym (tied-order (given a) (given b)) ∙ e) in
+    let first = neither (examine (given a)) (firstOf (ofSecond (given a) (given b))) (all .0) in
+    let last = neither factors (ofResult m) (all .1) in
+    let second = second-in (given a) (given b) (first .1) in
+    let u = accepted-valid b (second .0) in
+    held-again (sum-held standardWeights (valid-held (accepted-valid a (valid (given a) (first .0)))) (valid-ready u) (second .1)
+    (valid-held u .identifiers-in) (factors-in (view a) (view b) (last .0)) (result-narrow m (last .1)))
 
 independent-valid : (a b : PolyZonotope) (next : ℕ) → independentRefusal next (given a) (given b) ≡ none
     → Valid recordIdentifiers (independentSum standardWeights next (view a) (view b))
-unfolding independentRefusal
-independent-valid a b next e = let p = first-passed a _ e in let o = second-passed a b _ (p .1) in go (p .0) (o .set) (o .same) (o .rest)
-  where
-    go : Valid recordIdentifiers (view a) → Valid recordIdentifiers (view b) → view b .dimension ≡ view a .dimension
-        → Passed ((11 if badNext next (view a)) ∷ (9 if tooMany (view a) (renumbered next (view b)))
-        ∷ (10 if tooWide (independentSum standardWeights next (view a) (view b))) ∷ [])
-        → Valid recordIdentifiers (independentSum standardWeights next (view a) (view b))
-    go v u d (more fresh (more few (more width t))) =
-        let reached = any (λ k. not (ltb k next)) (view a .identifiers) in
-        let range = or-left (ltb next firstFresh || ltb lastFresh next) reached fresh in
-        let from : firstFresh ≤ next = ltb-false next firstFresh (or-left (ltb next firstFresh) (ltb lastFresh next) range) in
-        let to : next ≤ lastFresh = ltb-false lastFresh next (or-right (ltb next firstFresh) (ltb lastFresh next) range) in
-        let above = or-right (ltb next firstFresh || ltb lastFresh next) reached fresh in
-        let below : All (_< next) (view a .identifiers) =
-        All-imp (λ k h. ltb-true k next (not-false (ltb k next) h)) (any-false (λ k. not (ltb k next)) (view a .identifiers) above) in
-        let factors = counted (view b) (u .counts) .factors-few in
-        held-valid (independent-held standardWeights (held next v below) (omega arith) (valid-ready u) d few width) (omega arith)
+independent-valid a b next e =
+    let m = independentSum standardWeights next (view a) (view b) in
+    let fresh = ofNext next (view a) in
+    let factors = ofFactors (view a) (renumbered next (view b)) in
+    let all = neither (orElse (beforeSumming (given a) (given b)) fresh) (orElse factors (ofResult m))
+    (sym (independent-order next (given a) (given b)) ∙ e) in
+    let sets = neither (beforeSumming (given a) (given b)) fresh (all .0) in
+    let first = neither (examine (given a)) (firstOf (ofSecond (given a) (given b))) (sets .0) in
+    let last = neither factors (ofResult m) (all .1) in
+    let second = second-in (given a) (given b) (first .1) in
+    let u = accepted-valid b (second .0) in
+    let above = next-above next (view a) (sets .1) in
+    let few = counted (view b) (u .counts) .factors-few in
+    held-valid (independent-held standardWeights (held next (accepted-valid a (valid (given a) (first .0))) (above .2)) (omega (arith, above .0))
+    (valid-ready u) (second .1) (factors-in (view a) (renumbered next (view b)) (last .0)) (result-narrow m (last .1)))
+    (omega (arith, above .1, few))
 
 -- ---- the calls
 module _ {r : Changed} where
