@@ -17,6 +17,7 @@ use Rattle.model.specs.Library.{Given, ofFirst, badStepCounts, badStepLengths, 
 use Rattle.model.proofs.Tests.{and-true}
 use Rattle.zonotope.specs.declared.PolyZonotope.{PolyZonotope}
 use Rattle.zonotope.specs.declared.Examined.{Examined}
+use Rattle.zonotope.specs.declared.Examined.the-variants.{Refused}
 use Rattle.zonotope.specs.Record.{given}
 use Rattle.zonotope.specs.Shape.{Sized}
 use Rattle.zonotope.specs.Valid.{Valid, valid, passed}
@@ -36,6 +37,14 @@ ofSetAndStep p g = orElse (examine g) (firstOf (ofStep p (g .set .dimension)))
 -- before the result is looked at
 abbrev pub beforeStepping : Bool → Step → Given → Option ℕ
 beforeStepping short p g = cond short (some 13) (ofSetAndStep p g)
+
+-- the answers for room
+module _ (short : Bool) (p : Step) (g : Given) where
+  pub no-room : short ≡ true → Refused 13 ≡ examined (beforeStepping short p g)
+  no-room e = ap (λ (b : Bool). examined (beforeStepping b p g)) (sym e)
+
+  pub room-left : short ≡ false → {r : Examined} → r ≡ examined (ofSetAndStep p g) → r ≡ examined (beforeStepping short p g)
+  room-left e h = h ∙ ap (λ (b : Bool). examined (beforeStepping b p g)) (sym e)
 
 pub step-order : (short : Bool) (p : Step) (g : Given)
     → stepRefusal short p g ≡ orElse (beforeStepping short p g) (ofResult (Step.step standardWeights p (g .set)))
