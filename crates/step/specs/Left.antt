@@ -1,7 +1,7 @@
 -- What a work slice is left with.
 use mathlib.Core.Path.{_≡_, sym, ap, _∙_}
 use mathlib.Core.List.{List, _++_}
-use mathlib.Core.Bool.{true, false}
+use mathlib.Core.Bool.{Bool, true, false, cond}
 use mathlib.Core.Option.{Option}
 use Prim.Native.Nat.{ℕ, _+_, _-_}
 use native.Mathlib.Omega.{arith}
@@ -12,12 +12,18 @@ use Rattle.raw.specs.Append.{Kept}
 use Rattle.step.specs.Answer.{worked, leftIn}
 
 module _ {A : Type 0} (d : A) (n : ℕ) (before : List A) where
+  -- by whether the step was worked out
+  abbrev by-worked : Bool → List A
+  by-worked b = cond b (replicate n d ++ drop n before) before
+
   pub left-alone : (o : Option ℕ) → worked o ≡ false → before ≡ leftIn o n d before
-  left-alone o e = rw e
+  left-alone o e = ap by-worked (sym e)
 
   pub left-cleared : (o : Option ℕ) → worked o ≡ true → {after last : List A} → Kept d n before after → length after ≡ length before
       → last ≡ replicate n d ++ drop n after → last ≡ leftIn o n d before
   left-cleared o e {after} h l c =
-      rw e (c ∙ ap (replicate n d ++_) (ext-getD d (drop n after) (drop n before)
+      c
+      ∙ ap (replicate n d ++_) (ext-getD d (drop n after) (drop n before)
       (length-drop n after ∙ ap (_- n) l ∙ sym (length-drop n before))
-      (λ i m. getD-drop n after i d ∙ h .place (n + i) (omega arith) ∙ sym (getD-drop n before i d))))
+      (λ i m. getD-drop n after i d ∙ h .place (n + i) (omega arith) ∙ sym (getD-drop n before i d)))
+      ∙ ap by-worked (sym e)
