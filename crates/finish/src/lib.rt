@@ -113,7 +113,8 @@ fn reduce(
     )
 }
 
-// The rows of e and c as terms: sorted, equal ones added, all-zero ones dropped. The answer is how many there are.
+// The rows of e and c as terms: sorted, equal ones added, all-zero ones dropped. Rows that are all zero from the start are left out before
+// the sort. The answer is how many terms there are.
 fn gather(e: &[u8], c: &[i64], places: &mut [u16], heads: &mut [u16], s: &mut [i64]) -> usize
     requires { ⌜ (length (now places) ≤ 860) × (length (now places) * 12 ≤ length (now e)) × (length (now e) ≤ 10320)
         × (length (now places) * 6 ≤ length (now c)) × (length (now places) * 6 ≤ length (now s)) × (length (now heads) ≡ length (now places))
@@ -121,7 +122,9 @@ fn gather(e: &[u8], c: &[i64], places: &mut [u16], heads: &mut [u16], s: &mut [i
     ensures { λ r. ⌜ Gathered (now (e .entry)) (now (heads .exit)) (now (s .exit)) r
         (nonzero (rowsOf (now (e .entry)) (now (c .entry)) (length (now (places .entry))))) ⌝ }
 {
-    let n = collect::collect(e, c, places, heads, s);
+    let m = collect::nonzero_places(c, places);
+    collect::first_places(heads);
+    let n = collect::collect(e, c, &mut places[..m], &mut heads[..m], s);
     rows::drop_zero(heads, s, n)
 }
 

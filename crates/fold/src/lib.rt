@@ -2,14 +2,12 @@
 // fold some rows and keep the others.
 ghost use mathlib.Core.Path.{_≡_};
 ghost use mathlib.Core.List.{List, map};
-ghost use mathlib.Core.Bool.{false};
 ghost use Prim.Native.Nat.{ℕ, _+_, _*_, _^_, _≤_, _<_};
 ghost use lib.ListN.{length, getD};
 ghost use lib.IntN.{pos, natAbs};
 ghost use Rattle.model.specs.Limits.{maxExponent};
 ghost use Rattle.model.specs.Set.{plusℤ, plusℕ};
 ghost use Rattle.model.specs.Finish.{allEven, shift, growth, size};
-ghost use Rattle.rational.specs.Power.{even};
 ghost use Rattle.whole.specs.Tab.{tab, any};
 ghost use lib.Dec.{ltb};
 ghost use Rattle.rows.specs.Rows.{exponentRow, numberRow, Places, Small};
@@ -104,12 +102,7 @@ pub fn all_even(e: &[u8], x: usize) -> bool
     requires { ⌜ x * 12 + 12 ≤ length (now e) ⌝ }
     ensures { λ r. ⌜ r ≡ allEven (exponentRow (now (e .entry)) x) ⌝ }
 {
-    for k in 0..12 {
-        if !is_even(e[x * 12 + k]) {
-            return false;
-        }
-    }
-    true
+    rows::clear_of(e, x, 1)
 }
 
 // Whether an exponent of row x is too large.
@@ -117,12 +110,7 @@ pub fn is_high(e: &[u8], x: usize) -> bool
     requires { ⌜ x * 12 + 12 ≤ length (now e) ⌝ }
     ensures { λ r. ⌜ r ≡ any (λ k. ltb maxExponent k) (exponentRow (now (e .entry)) x) ⌝ }
 {
-    for k in 0..12 {
-        if e[x * 12 + k] > 63 {
-            return true;
-        }
-    }
-    false
+    !rows::clear_of(e, x, 192)
 }
 
 // The size of row k: the sum of weight times |number|.
@@ -164,13 +152,6 @@ pub fn grown(radii: [u64; 6], s: &[i64], k: usize, even: bool) -> [u64; 6]
         out[j] = radii[j] + growth_by(even, g);
     }
     out
-}
-
-// Whether a number is even.
-fn is_even(x: u8) -> bool
-    ensures { λ r. ⌜ r ≡ even x ⌝ }
-{
-    x % 2 == 0
 }
 
 // One more weighed number in a size.
