@@ -3,13 +3,14 @@
 ghost use mathlib.Core.Path.{_≡_};
 ghost use mathlib.Core.List.{List, map};
 ghost use Prim.Native.Nat.{ℕ, _+_, _*_, _^_, _≤_, _<_};
-ghost use lib.ListN.{length, getD};
+ghost use lib.ListN.{length, getD, drop};
 ghost use lib.IntN.{pos, natAbs};
 ghost use Rattle.model.specs.Limits.{maxExponent};
 ghost use Rattle.model.specs.Set.{plusℤ, plusℕ};
 ghost use Rattle.model.specs.Finish.{allEven, shift, growth, size};
 ghost use Rattle.whole.specs.Tab.{tab, any};
 ghost use lib.Dec.{ltb};
+ghost use Rattle.rows.specs.WorkSpace.{LeftOpen};
 ghost use Rattle.rows.specs.Rows.{exponentRow, numberRow, Places, Small};
 ghost use Rattle.whole.specs.Write.{write};
 ghost use Rattle.fold.specs.Chosen.{chosen};
@@ -60,6 +61,7 @@ pub fn keep_rows(s: &mut [i64], n: usize, gone: &[bool; 860]) -> usize
     ensures { λ r. ⌜ (r ≤ n)
         × (tab r (numberRow (now (s .exit))) ≡ map (numberRow (now (s .entry))) (chosen (unmarked (now (gone .entry))) n))
         × ((b : ℕ) → Small b (now (s .entry)) → Small b (now (s .exit))) ⌝ }
+    ensures later_rows { λ r. ⌜ LeftOpen (drop (r * 6) (now (s .entry))) (drop (r * 6) (now (s .exit))) ⌝ }
 {
     let mut m = 0;
     let mut k = 0;
@@ -81,6 +83,7 @@ pub fn keep_places(heads: &mut [u16], n: usize, gone: &[bool; 860]) -> usize
     ensures { λ r. ⌜ (r ≤ n)
         × (tab r (λ k. getD (now (heads .exit)) k 0) ≡ map (λ k. getD (now (heads .entry)) k 0) (chosen (unmarked (now (gone .entry))) n))
         × ((e : List ℕ) → Places e (now (heads .entry)) → Places e (now (heads .exit))) ⌝ }
+    ensures later_places { λ r. ⌜ LeftOpen (drop r (now (heads .entry))) (drop r (now (heads .exit))) ⌝ }
 {
     let mut m = 0;
     let mut k = 0;

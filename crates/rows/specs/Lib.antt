@@ -1,4 +1,5 @@
 -- Terms in work slices.
+--     WorkSpace    what a contract says of work space
 --     Rows         what rows of exponents and coefficients hold
 --     Compare      the answer of a comparison, and tests of it
 --     Words        bytes as the digits of a number: lists of bytes are in the order of what they spell
@@ -9,6 +10,7 @@
 --     Cells        a row of numbers that was written, bounds on all numbers
 --     Sifting      a pass that keeps some rows, in place
 --     Zero         rows of zeros
+pub mod WorkSpace
 pub mod Rows
 pub mod Compare
 pub mod Words
