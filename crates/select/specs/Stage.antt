@@ -4,11 +4,11 @@ use mathlib.Core.Bool.{Bool, true, false, not}
 use mathlib.Core.Path.{_≡_, refl, sym, ap, ap₂, _∙_}
 use Prim.Native.Nat.{ℕ, zero, suc, _+_, _*_, _^_, _<_, _≤_}
 use native.Mathlib.Omega.{arith}
-use lib.Dec.{ltb, lit≤}
+use lib.Dec.{ltb}
 use lib.ListN.{length, getD}
 use lib.IntN.{ℤ}
 use Rattle.whole.specs.Tab.{tab, any}
-use Rattle.model.specs.Limits.{maxExponent, standardWeights}
+use Rattle.model.specs.Limits.{maxExponent}
 use Rattle.model.specs.Set.{Term}
 use Rattle.model.specs.Finish.{Core, Folded, those, allEven, high, size, foldVector, foldTerm, foldAll, foldUntil}
 use Rattle.model.proofs.FoldOrder.{term-swap}
@@ -132,17 +132,3 @@ module _ (e heads : List ℕ) (s : List ℤ) (n : ℕ) (k : Core) where
         record { core = c; kept = terms e heads′ s′ m } ≡ foldUntil (termSize weights) foldTerm limit k (terms e heads s n) → m ≤ limit
     unfolding terms
     terms-within heads′ s′ m p = left-within (termSize weights) foldTerm term-swap limit k (terms e heads s n) m (termAt e heads′ s′) p
-
--- ---- the weights that document 01 fixes are small
-under-cons : {b x : ℕ} {xs : List ℕ} → x ≤ b → Under b xs → Under b (x ∷ xs)
-under-cons {b} {x} {xs} h v = record { under = go }
-  where
-    go : (i : ℕ) → getD (x ∷ xs) i 0 ≤ b
-    go zero = h
-    go (suc i) = v .under i
-
-pub standard-small : Under 1000 standardWeights
-standard-small =
-    let four : 4 ≤ 1000 = lit≤ tt in
-    let one : 1 ≤ 1000 = lit≤ tt in
-    under-cons four (under-cons one (under-cons four (under-cons one (under-cons four (under-cons one (record { under = λ i. lit≤ tt }))))))

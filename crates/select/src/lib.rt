@@ -3,13 +3,14 @@
 ghost use mathlib.Core.Path.{_≡_};
 ghost use Prim.Native.Nat.{ℕ, _+_, _*_, _^_, _≤_, _<_};
 ghost use lib.Dec.{ltb};
-ghost use lib.ListN.{length, getD};
+ghost use lib.ListN.{length, getD, drop};
 ghost use Rattle.whole.specs.Tab.{tab};
 ghost use Rattle.model.specs.Motion.{places};
 ghost use Rattle.model.specs.Finish.{size, foldTerm, foldGenerator, foldUntil};
 ghost use Rattle.model.proofs.Select.{bar, left};
 ghost use Rattle.model.proofs.Level.{level, Bar};
 ghost use Rattle.model.proofs.FirstBySize.{termSize};
+ghost use Rattle.rows.specs.WorkSpace.{LeftOpen};
 ghost use Rattle.rows.specs.Rows.{exponentRow, numberRow, terms, Places, Small};
 ghost use Rattle.fold.specs.Marks.{at};
 ghost use Rattle.fold.specs.Folding.{Under, coreOf};
@@ -36,6 +37,8 @@ pub fn fold_high(
     requires { ⌜ Ready (now e) (now heads) (now s) n × Small (2 ^ 61) centre × Under (2 ^ 61) radii ⌝ }
     ensures { λ r. ⌜ Passed (now (e .entry)) (now (heads .exit)) (now (s .exit)) n (r .count) centre (r .centre) radii (r .radii)
         (withoutHigh (coreOf centre radii) (terms (now (e .entry)) (now (heads .entry)) (now (s .entry)) n)) ⌝ }
+    ensures later_places { λ r. ⌜ LeftOpen (drop (r .count) (now (heads .entry))) (drop (r .count) (now (heads .exit))) ⌝ }
+    ensures later_rows { λ r. ⌜ LeftOpen (drop (r .count * 6) (now (s .entry))) (drop (r .count * 6) (now (s .exit))) ⌝ }
 {
     let gone = mark(e, heads, n, false);
     part_terms(e, heads, s, n, &gone, centre, radii)
@@ -56,6 +59,8 @@ pub fn fold_terms(
     ensures { λ r. ⌜ Passed (now (e .entry)) (now (heads .exit)) (now (s .exit)) n (r .count) centre (r .centre) radii (r .radii)
         (foldUntil (termSize weights) foldTerm limit (coreOf centre radii) (terms (now (e .entry)) (now (heads .entry)) (now (s .entry)) n))
         × (r .count ≤ limit) ⌝ }
+    ensures later_places { λ r. ⌜ LeftOpen (drop (r .count) (now (heads .entry))) (drop (r .count) (now (heads .exit))) ⌝ }
+    ensures later_rows { λ r. ⌜ LeftOpen (drop (r .count * 6) (now (s .entry))) (drop (r .count * 6) (now (s .exit))) ⌝ }
 {
     if n <= limit {
         return Kept {
@@ -82,6 +87,7 @@ pub fn fold_generators(
     ensures { λ r. ⌜ GeneratorsPassed (now (g .exit)) n (r .count) centre (r .centre) radii (r .radii)
         (foldUntil (size weights) foldGenerator limit (coreOf centre radii) (tab n (numberRow (now (g .entry)))))
         × (r .count ≤ limit) ⌝ }
+    ensures later_rows { λ r. ⌜ LeftOpen (drop (r .count * 6) (now (g .entry))) (drop (r .count * 6) (now (g .exit))) ⌝ }
 {
     if n <= limit {
         return Kept {

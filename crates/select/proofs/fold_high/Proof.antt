@@ -1,5 +1,7 @@
 -- `select::fold_high` meets its contract: what was marked has an exponent that is too large.
 use borrow.Author.Needs.{needs}
+use Prim.Native.Nat.{_*_}
+use Rattle.rows.specs.WorkSpace.{open-from}
 use Rattle.select.specs.Stage.{passed-as, high-parted}
 use Rattle.select.proofs.fold_high.Statement.{statement}
 use Rattle.select.proofs.fold_high.Tie as tie
@@ -21,8 +23,14 @@ returns c =
     let parts = c .before .before .before in
     let marks = parts .before .before .before .before in
     let s = marks .before .before .before .before in
-    passed-as (parts .part-terms .ensures)
-    (high-parted (s .args .e .now) (s .args .heads .now) (s .args .s .now) (s .args .n) _ (marks .mark .result) (marks .mark .ensures))
+    let p = parts .part-terms in (
+      passed-as (p .ensures)
+          (high-parted (s .args .e .now) (s .args .heads .now) (s .args .s .now) (s .args .n) _ (marks .mark .result) (marks .mark .ensures)),
+      (
+        open-from (p .result .count) (s .args .heads .now) (p .last .1 .0) (p .kept .1 .0),
+        open-from (p .result .count * 6) (s .args .s .now) (p .last .1 .1 .0) (p .kept .1 .1 .0),
+      ),
+    )
 
 pub fold-high-spec : {M : Type 1} → statement M
 fold-high-spec =
