@@ -2,7 +2,7 @@
 use mathlib.Core.Path.{_≡_, refl, sym, _∙_, ap, ap₂}
 use mathlib.Core.List.{List, [], _∷_, _++_}
 use mathlib.Core.Option.{Option, none, some}
-use mathlib.Core.Bool.{Bool, true, false, not, cond, _||_, or-true}
+use mathlib.Core.Bool.{Bool, true, false, not, cond, _||_, or-true, or-false, true≢false}
 use Prim.Native.Nat.{ℕ, _≤_}
 use native.Mathlib.Omega.{arith}
 use borrow.Author.Tests.{ltb-false, le-ltb, eqb-true, not-false}
@@ -16,7 +16,7 @@ use Rattle.model.specs.Valid.{badCounts, badRange, badOrder, tooWide}
 use Rattle.model.specs.Operations.{tiedSum, independentSum, renumbered}
 use Rattle.model.specs.Body.{dimension, setLength, radiusWords, givenSet}
 use Rattle.model.specs.Field.{start, tied, independent, meaning, differs, negative, tooMany}
-use Rattle.model.specs.Run.{Cause, _if_, firstOf}
+use Rattle.model.specs.Run.{Cause, _if_, firstOf, noSet}
 use Rattle.model.specs.Library.{Given, ofFirst, examine}
 use Rattle.zonotope.specs.declared.PolyZonotope.{PolyZonotope}
 use Rattle.zonotope.specs.declared.Examined.{Examined}
@@ -27,7 +27,7 @@ use Rattle.zonotope.specs.Answer.{examined, orElse, first-append}
 use Rattle.answers.specs.Answer.{ofResult}
 use Rattle.summing.specs.Summable.{ofFactors}
 use Rattle.bodies.specs.Set.{setCountsOut, SetBody}
-use Rattle.bodies.specs.Given.{given-record}
+use Rattle.bodies.specs.Given.{given-record, given-counts}
 use Rattle.fields.specs.Refusal.{bodyRefusal}
 
 module _ (b : List ℕ) where
@@ -81,9 +81,6 @@ beyond-out (k ∷ l) e = go (eqb k 0) (ltb fileIdentifiers k) (any (ltb fileIden
     go false false z h e = h e
 
 module _ {b : List ℕ} (s : SetBody b) where
-  ids : List ℕ
-  ids = givenSet b .identifiers
-
   -- 6 by what is asked of the identifiers and the radii alone
   pub contents-out : any (ltb fileIdentifiers) (givenSet b .identifiers) || any negative (radiusWords b) ≡ true
       → Refused 6 ≡ examined (firstOf (ofContents b))
@@ -94,8 +91,47 @@ module _ {b : List ℕ} (s : SetBody b) where
           → (badRange fileIdentifiers (givenSet b) || y) ≡ true
       go true y p e = rw (beyond-out (givenSet b .identifiers) p)
       go false true p e = or-true (badRange fileIdentifiers (givenSet b))
+      go false false p e = absurd (true≢false (sym e))
 
   -- else by examining the record
   pub contents-in : any (ltb fileIdentifiers) (givenSet b .identifiers) || any negative (radiusWords b) ≡ false
       → {r : Examined} → r ≡ examined (examine (given (pack (givenSet b)))) → r ≡ examined (firstOf (ofContents b))
-  contents-in e p = ?
+  unfolding firstOf examine badRange
+  contents-in e {r} p =
+      let ids = any (ltb fileIdentifiers) (givenSet b .identifiers) in
+      let same = in-file (givenSet b .identifiers) (or-left ids (any negative (radiusWords b)) e) in
+      p ∙ ap (λ (g : Given). examined (examine g)) (given-record b (s .counts))
+      ∙ rw (given-counts b, s .counts, or-right ids (any negative (radiusWords b)) e, or-false (badRange fileIdentifiers (givenSet b)), same)
+
+-- ---- the order of causes
+-- a set that is its own result is too wide once
+wide-once : (x y w : Bool) → firstOf ((6 if x) ∷ (7 if y) ∷ (8 if w) ∷ (9 if false) ∷ (10 if w) ∷ []) ≡
+    firstOf ((6 if x) ∷ (7 if y) ∷ (8 if w) ∷ [])
+unfolding firstOf
+wide-once x y true = refl
+wide-once x y false = refl
+
+module _ (b : List ℕ) where
+  -- a start set: the layout, then the contents; what its result adds holds where the contents are too wide
+  pub start-order : bodyRefusal start b 0 noSet ≡ orElse (firstOf (ofLayout b)) (firstOf (ofContents b))
+  unfolding meaning
+  start-order =
+      first-append (ofLayout b) (ofContents b ++ ((9 if false) ∷ (10 if tooWide (givenSet b)) ∷ []))
+      ∙ ap (orElse (firstOf (ofLayout b))) (wide-once (outOfRange b) (badOrder (givenSet b)) (tooWide (givenSet b)))
+
+  module _ (s : Zonotope) where
+    -- a tied sum: the summand, the factors of both, the result
+    pub tied-order : bodyRefusal tied b 0 s
+        ≡ orElse (firstOf (ofSummand (s .dimension) b)) (orElse (ofFactors s (givenSet b)) (ofResult (tiedSum standardWeights s (givenSet b))))
+    unfolding meaning
+    tied-order =
+        first-append (ofSummand (s .dimension) b) _
+        ∙ ap (orElse (firstOf (ofSummand (s .dimension) b))) (first-append ((9 if tooMany s (givenSet b)) ∷ []) _)
+
+    pub independent-order : (next : ℕ) → bodyRefusal independent b next s
+        ≡ orElse (firstOf (ofSummand (s .dimension) b)) (orElse (ofFactors s (renumbered next (givenSet b)))
+        (ofResult (independentSum standardWeights next s (givenSet b))))
+    unfolding meaning
+    independent-order next =
+        first-append (ofSummand (s .dimension) b) _
+        ∙ ap (orElse (firstOf (ofSummand (s .dimension) b))) (first-append ((9 if tooMany s (renumbered next (givenSet b))) ∷ []) _)
