@@ -2,7 +2,7 @@
 use mathlib.Core.Path.{_≡_, refl, sym, _∙_, ap, ap₂}
 use mathlib.Core.List.{List, [], _∷_, _++_}
 use mathlib.Core.Option.{Option, none, some}
-use mathlib.Core.Bool.{Bool, true, false, not, cond, _||_, or-true, or-false, true≢false}
+use mathlib.Core.Bool.{Bool, true, false, not, cond, _||_, or-true, or-false, or-assoc}
 use Prim.Native.Nat.{ℕ, _≤_}
 use native.Mathlib.Omega.{arith}
 use borrow.Author.Tests.{ltb-false, le-ltb, eqb-true, not-false}
@@ -27,7 +27,7 @@ use Rattle.zonotope.specs.Answer.{examined, orElse, first-append}
 use Rattle.answers.specs.Answer.{ofResult}
 use Rattle.summing.specs.Summable.{ofFactors}
 use Rattle.bodies.specs.Set.{setCountsOut, SetBody}
-use Rattle.bodies.specs.Given.{given-record, given-counts}
+use Rattle.bodies.specs.Given.{given-record, given-counts, file-range}
 use Rattle.fields.specs.Refusal.{bodyRefusal}
 
 module _ (b : List ℕ) where
@@ -57,51 +57,26 @@ set-body b e =
     record { counts = counts .0; long = eqb-true _ _ (not-false _ (long .0)) }
 
 -- ---- the contents
--- identifiers of a file are in a record's range
-in-file : (l : List ℕ) → any (ltb fileIdentifiers) l ≡ false
-    → any (λ k. eqb k 0 || ltb recordIdentifiers k) l ≡ any (λ k. eqb k 0 || ltb fileIdentifiers k) l
-unfolding any
-in-file [] e = refl
-in-file (k ∷ l) e =
-    let f = or-left (ltb fileIdentifiers k) (any (ltb fileIdentifiers) l) e in
-    let h = ltb-false fileIdentifiers k f in
-    let g = le-ltb recordIdentifiers k (omega arith) in
-    ap₂ (λ x y. (eqb k 0 || x) || y) (g ∙ sym f) (in-file l (or-right (ltb fileIdentifiers k) (any (ltb fileIdentifiers) l) e))
+-- what is asked of a file's identifiers and of the radii alone
+abbrev pub beyondFile : List ℕ → Bool
+beyondFile b = any (ltb fileIdentifiers) (givenSet b .identifiers) || any negative (radiusWords b)
 
--- an identifier beyond a file's is out of its range
-beyond-out : (l : List ℕ) → any (ltb fileIdentifiers) l ≡ true → any (λ k. eqb k 0 || ltb fileIdentifiers k) l ≡ true
-unfolding any
-beyond-out [] e = e
-beyond-out (k ∷ l) e = go (eqb k 0) (ltb fileIdentifiers k) (any (ltb fileIdentifiers) l) (beyond-out l) e
-  where
-    go : (x y z : Bool) → (z ≡ true → any (λ k. eqb k 0 || ltb fileIdentifiers k) l ≡ true) → (y || z) ≡ true
-        → ((x || y) || any (λ k. eqb k 0 || ltb fileIdentifiers k) l) ≡ true
-    go true y z h e = refl
-    go false true z h e = refl
-    go false false z h e = h e
+-- 6 is this, or what examining a record finds
+range-parts : (b : List ℕ) → outOfRange b ≡ (badRange recordIdentifiers (givenSet b) || beyondFile b)
+range-parts b = ap (_|| any negative (radiusWords b)) (file-range (givenSet b)) ∙ or-assoc (badRange recordIdentifiers (givenSet b)) _ _
 
 module _ {b : List ℕ} (s : SetBody b) where
-  -- 6 by what is asked of the identifiers and the radii alone
-  pub contents-out : any (ltb fileIdentifiers) (givenSet b .identifiers) || any negative (radiusWords b) ≡ true
-      → Refused 6 ≡ examined (firstOf (ofContents b))
-  unfolding firstOf badRange
-  contents-out e = rw (go (any (ltb fileIdentifiers) (givenSet b .identifiers)) (any negative (radiusWords b)) refl e)
-    where
-      go : (x y : Bool) → any (ltb fileIdentifiers) (givenSet b .identifiers) ≡ x → (x || y) ≡ true
-          → (badRange fileIdentifiers (givenSet b) || y) ≡ true
-      go true y p e = rw (beyond-out (givenSet b .identifiers) p)
-      go false true p e = or-true (badRange fileIdentifiers (givenSet b))
-      go false false p e = absurd (true≢false (sym e))
+  pub contents-out : beyondFile b ≡ true → Refused 6 ≡ examined (firstOf (ofContents b))
+  unfolding firstOf
+  contents-out e = rw (range-parts b, e, or-true (badRange recordIdentifiers (givenSet b)))
 
-  -- else by examining the record
-  pub contents-in : any (ltb fileIdentifiers) (givenSet b .identifiers) || any negative (radiusWords b) ≡ false
-      → {r : Examined} → r ≡ examined (examine (given (pack (givenSet b)))) → r ≡ examined (firstOf (ofContents b))
-  unfolding firstOf examine badRange
+  -- else the rest is asked by examining the record
+  pub contents-in : beyondFile b ≡ false → {r : Examined} → r ≡ examined (examine (given (pack (givenSet b))))
+      → r ≡ examined (firstOf (ofContents b))
+  unfolding firstOf examine
   contents-in e {r} p =
-      let ids = any (ltb fileIdentifiers) (givenSet b .identifiers) in
-      let same = in-file (givenSet b .identifiers) (or-left ids (any negative (radiusWords b)) e) in
       p ∙ ap (λ (g : Given). examined (examine g)) (given-record b (s .counts))
-      ∙ rw (given-counts b, s .counts, or-right ids (any negative (radiusWords b)) e, or-false (badRange fileIdentifiers (givenSet b)), same)
+      ∙ rw (given-counts b, s .counts, range-parts b, e, or-false (badRange recordIdentifiers (givenSet b)))
 
 -- ---- the order of causes
 -- a set that is its own result is too wide once

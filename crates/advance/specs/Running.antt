@@ -1,0 +1,24 @@
+-- A state that a run can have: its set, where a field was accepted, is valid, and its next identifier is in its range and above the set's.
+use mathlib.Core.Path.{_≡_, refl, sym, _∙_, ap, subst}
+use mathlib.Core.Option.{none, some}
+use mathlib.Core.Bool.{false, cond}
+use Prim.Native.Nat.{ℕ, zero, suc, _<_}
+use native.Mathlib.Omega.{arith}
+use borrow.Author.Tests.{ne-eqb}
+use lib.Dec.{eqb}
+use Rattle.model.specs.Run as Model
+use Rattle.model.specs.Run.{current}
+use Rattle.model.specs.Library.{badNext}
+use Rattle.zonotope.specs.Record.{view}
+use Rattle.answers.specs.Accepted.{Accepted}
+use Rattle.states.specs.declared.State.{State}
+use Rattle.states.specs.State.{viewed}
+
+pub record Running (st : State) : Type 0 where
+  pub set : 0 < st .count → Accepted (st .set)
+  pub next : badNext (st .next) (current (viewed st)) ≡ false
+
+-- the current set, where there is one
+pub current-is : (st : State) → 0 < st .count → current (viewed st) ≡ view (st .set)
+unfolding viewed
+current-is st h = rw (ne-eqb (st .count) 0 (λ z. omega arith))

@@ -1,0 +1,26 @@
+// One field given to a state that a run can have. A part of `run`, and of the programs that take fields as they come.
+ghost use mathlib.Core.Path.{_≡_};
+ghost use Prim.Native.Nat.{_≤_};
+ghost use lib.IntN.{pos};
+ghost use lib.ListN.{length};
+ghost use Rattle.model.specs.Run.{firstOf, firstField};
+ghost use Rattle.zonotope.specs.Answer.{examined};
+ghost use Rattle.stepping.specs.Work.{workNumbers, workExponents};
+ghost use Rattle.advance.specs.Header.{ofHeader};
+ghost use Rattle.advance.specs.Running.{Running};
+ghost use Rattle.advance.specs.Advanced.{advanced, Used};
+use states::Answer;
+use states::State;
+use zonotope::Examined;
+
+// Document 01's number of the last field that may follow the start set, and the last tag.
+const LAST_FIELD: usize = 4096;
+
+const LAST_TAG: u8 = 7;
+
+// An answer, the state that the field leaves, and whether a step was worked out in the work slices.
+pub struct Advanced {
+    pub answer: Answer,
+    pub state: State,
+    pub worked: bool,
+}
