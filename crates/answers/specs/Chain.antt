@@ -60,7 +60,9 @@ accepted-valid s v =
 
 -- a valid set is held below the first identifier that no record has, and back
 pub valid-held : {m : Zonotope} → Model.Valid recordIdentifiers m → Held (suc recordIdentifiers) m
-valid-held {m} v = held (suc recordIdentifiers) v (All-imp (λ k h. omega (arith, h .1)) (ranged recordIdentifiers m (v .ranges) .identifiers-in))
+valid-held {m} v =
+    held (suc recordIdentifiers) v
+    (All-imp (λ k h. omega (arith, h .1)) (ranged recordIdentifiers m (v .ranges) .identifiers-in))
 
 pub held-again : {m : Zonotope} → Held (suc recordIdentifiers) m → Model.Valid recordIdentifiers m
 held-again h = held-valid h (omega arith)

@@ -72,8 +72,9 @@ independent-valid a b next e =
     let u = accepted-valid b (second .0) in
     let above = next-above next (view a) (sets .1) in
     let few = counted (view b) (u .counts) .factors-few in
-    held-valid (independent-held standardWeights (held next (accepted-valid a (valid (given a) (first .0))) (above .2)) (omega (arith, above .0))
-    (valid-ready u) (second .1) (factors-in (view a) (renumbered next (view b)) (last .0)) (result-narrow m (last .1)))
+    let own = held next (accepted-valid a (valid (given a) (first .0))) (above .2) in
+    held-valid (independent-held standardWeights own (omega (arith, above .0)) (valid-ready u) (second .1)
+    (factors-in (view a) (renumbered next (view b)) (last .0)) (result-narrow m (last .1)))
     (omega (arith, above .1, few))
 
 -- ---- the calls
@@ -87,7 +88,8 @@ module _ {r : Changed} where
   reduce-chains s h q = answer-chained _ s _ (reduce-valid s h q)
 
   pub tied-chains : (a b : PolyZonotope)
-      → r ≡ answered (tiedRefusal (given a) (given b)) a (tiedSum standardWeights (view a) (view b)) → r .outcome ≡ Accepted → Usable (r .set)
+      → r ≡ answered (tiedRefusal (given a) (given b)) a (tiedSum standardWeights (view a) (view b))
+      → r .outcome ≡ Accepted → Usable (r .set)
   tied-chains a b = answer-chained _ a _ (tied-valid a b)
 
   pub independent-chains : (a b : PolyZonotope) (next : ℕ)

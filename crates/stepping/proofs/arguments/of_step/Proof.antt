@@ -19,7 +19,8 @@ counts : (s : tie.After-bad-dimension2) {b : Bool} → (s .before .bad-dimension
     → badStepCounts (asked (s .before .before)) ≡ b
 counts s t = sym (ap₂ _||_ (s .before .bad-dimension .ensures) (s .bad-dimension2 .ensures)) ∙ t
 
-lengths : (s : tie.After-lengths-differ) {b : Bool} → s .lengths-differ .result ≡ b → badStepLengths (asked (s .before .before .before .before)) ≡ b
+lengths : (s : tie.After-lengths-differ) {b : Bool} → s .lengths-differ .result ≡ b
+    → badStepLengths (asked (s .before .before .before .before)) ≡ b
 lengths s t = sym (s .lengths-differ .ensures) ∙ t
 
 entries : (s : tie.After-entries-beyond3) {b : Bool}
