@@ -1,4 +1,4 @@
--- `select::find_bar` meets its contract: enough sizes reach the lower end, and no more than the limit the upper one.
+-- `smallest::find_bar` meets its contract: enough sizes reach the lower end, and no more than the limit the upper one.
 use native.Mathlib.Omega.{arith}
 use borrow.Author.Needs.{needs}
 use mathlib.Core.Path.{_≡_, ap}
@@ -6,8 +6,8 @@ use Prim.Native.Nat.{ℕ, suc, _-_, _<_, _≤_}
 use Rattle.model.specs.Motion.{places}
 use Rattle.model.proofs.Level.{level}
 use Rattle.select.specs.Bar.{sizeAt, count-all, count-top}
-use Rattle.select.proofs.find_bar.Statement.{statement}
-use Rattle.select.proofs.find_bar.Tie as tie
+use Rattle.select.proofs.smallest.find_bar.Statement.{statement}
+use Rattle.select.proofs.smallest.find_bar.Tie as tie
 
 abbrev Inv-loop : tie.InvT-loop
 Inv-loop z n limit top low₀ high₀ low high =

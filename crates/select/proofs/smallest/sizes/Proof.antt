@@ -1,4 +1,4 @@
--- `select::sizes` meets its contract: one size more is known in each turn.
+-- `smallest::sizes` meets its contract: one size more is known in each turn.
 use native.Mathlib.Omega.{arith}
 use borrow.Author.Needs.{needs}
 use mathlib.Core.Path.{_≡_}
@@ -9,8 +9,8 @@ use Rattle.model.specs.Finish.{size}
 use Rattle.rows.specs.Rows.{numberRow}
 use Rattle.fold.specs.Marks.{marks-more}
 use Rattle.select.specs.Bar.{sizeAt}
-use Rattle.select.proofs.sizes.Statement.{statement}
-use Rattle.select.proofs.sizes.Tie as tie
+use Rattle.select.proofs.smallest.sizes.Statement.{statement}
+use Rattle.select.proofs.smallest.sizes.Tie as tie
 
 abbrev Inv-loop : tie.InvT-loop
 Inv-loop s n weights out₀ k₀ out k =

@@ -1,4 +1,4 @@
--- `select::mark_below` meets its contract, by the laws of `Marking`.
+-- `smallest::mark_below` meets its contract, by the laws of `Marking`.
 use native.Mathlib.Omega.{arith}
 use borrow.Author.Needs.{needs}
 use mathlib.Core.Bool.{false}
@@ -8,8 +8,8 @@ use lib.ListN.{length, length-set, length-replicate}
 use borrow.Author.Tests.{ltb-true, ltb-false}
 use Rattle.select.specs.Bar.{Marking, marking-start, marking-low, marking-high, marking-done}
 use Rattle.fold.specs.Marks.{same-at}
-use Rattle.select.proofs.mark_below.Statement.{statement}
-use Rattle.select.proofs.mark_below.Tie as tie
+use Rattle.select.proofs.smallest.mark_below.Statement.{statement}
+use Rattle.select.proofs.smallest.mark_below.Tie as tie
 
 abbrev Inv-loop : tie.InvT-loop
 Inv-loop z n height quota out₀ rest₀ k₀ out rest k = (length out ≡ 860) × Marking z height quota n out rest k

@@ -1,4 +1,4 @@
--- `select::count_from` meets its contract: the count grows at the end of the list.
+-- `smallest::count_from` meets its contract: the count grows at the end of the list.
 use native.Mathlib.Omega.{arith}
 use borrow.Author.Needs.{needs}
 use mathlib.Core.Path.{_≡_, sym, ap, _∙_}
@@ -6,8 +6,8 @@ use Prim.Native.Nat.{ℕ, _+_, _-_, _≤_}
 use Rattle.model.specs.Motion.{places}
 use Rattle.model.proofs.Level.{level}
 use Rattle.select.specs.Bar.{sizeAt, count-none, count-in, count-out}
-use Rattle.select.proofs.count_from.Statement.{statement}
-use Rattle.select.proofs.count_from.Tie as tie
+use Rattle.select.proofs.smallest.count_from.Statement.{statement}
+use Rattle.select.proofs.smallest.count_from.Tie as tie
 
 abbrev Inv-loop : tie.InvT-loop
 Inv-loop z n height count₀ k₀ count k = (k ≤ n) × (count ≤ k) × (count ≡ level (sizeAt z) height (places k))

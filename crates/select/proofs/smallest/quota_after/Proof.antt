@@ -1,9 +1,9 @@
--- `select::quota_after` meets its contract, by cases.
+-- `smallest::quota_after` meets its contract, by cases.
 use native.Mathlib.Omega.{arith}
 use borrow.Author.Needs.{needs}
 use borrow.Author.Tests.{eq-eqb, ne-eqb}
-use Rattle.select.proofs.quota_after.Statement.{statement}
-use Rattle.select.proofs.quota_after.Tie as tie
+use Rattle.select.proofs.smallest.quota_after.Statement.{statement}
+use Rattle.select.proofs.smallest.quota_after.Tie as tie
 
 sub-result : tie.Need-sub-result
 sub-result c = search needs

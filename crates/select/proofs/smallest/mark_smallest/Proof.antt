@@ -1,4 +1,4 @@
--- `select::mark_smallest` meets its contract, by the bar that was found.
+-- `smallest::mark_smallest` meets its contract, by the bar that was found.
 use native.Mathlib.Omega.{arith}
 use borrow.Author.Needs.{needs}
 use mathlib.Core.Path.{ap, _∙_}
@@ -8,8 +8,8 @@ use Rattle.model.specs.Motion.{places}
 use Rattle.model.proofs.Level.{level}
 use Rattle.select.specs.Bar.{sizeAt}
 use Rattle.select.specs.Selected.{selected-by}
-use Rattle.select.proofs.mark_smallest.Statement.{statement}
-use Rattle.select.proofs.mark_smallest.Tie as tie
+use Rattle.select.proofs.smallest.mark_smallest.Statement.{statement}
+use Rattle.select.proofs.smallest.mark_smallest.Tie as tie
 
 sizes-requires : tie.Need-sizes-requires
 sizes-requires c κs = search needs

@@ -1,7 +1,7 @@
--- `select::is_below` meets its contract, by whether some of the bar's size are still to be kept.
+-- `smallest::is_below` meets its contract, by whether some of the bar's size are still to be kept.
 use Rattle.select.specs.Bar.{below-none, below-some}
-use Rattle.select.proofs.is_below.Statement.{statement}
-use Rattle.select.proofs.is_below.Tie as tie
+use Rattle.select.proofs.smallest.is_below.Statement.{statement}
+use Rattle.select.proofs.smallest.is_below.Tie as tie
 
 returns : tie.Need-returns
 returns c = below-none _ _ _ (c .if1 .taken)

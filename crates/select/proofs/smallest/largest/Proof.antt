@@ -1,11 +1,11 @@
--- `select::largest` meets its contract: each size passed is at most the largest so far.
+-- `smallest::largest` meets its contract: each size passed is at most the largest so far.
 use native.Mathlib.Omega.{arith}
 use borrow.Author.Needs.{needs}
 use Prim.Native.Nat.{ℕ, _-_, _*_, _^_, _<_, _≤_}
 use borrow.Author.Count.{below-none, below-more}
 use Rattle.select.specs.Bar.{sizeAt}
-use Rattle.select.proofs.largest.Statement.{statement}
-use Rattle.select.proofs.largest.Tie as tie
+use Rattle.select.proofs.smallest.largest.Statement.{statement}
+use Rattle.select.proofs.smallest.largest.Tie as tie
 
 abbrev Inv-loop : tie.InvT-loop
 Inv-loop z n most₀ k₀ most k = (k ≤ n) × ((i : ℕ) → i < k → sizeAt z i ≤ most) × (most ≤ 6000 * 2 ^ 50)
