@@ -122,8 +122,8 @@ fn reduce(
 // the sort. The answer is how many terms there are.
 fn gather(e: &[u8], c: &[i64], places: &mut [u16], heads: &mut [u16], s: &mut [i64]) -> usize
     requires { ⌜ (length (now places) ≤ 860) × (length (now places) * 12 ≤ length (now e)) × (length (now e) ≤ 10320)
-        × (length (now places) * 6 ≤ length (now c)) × (length (now places) * 6 ≤ length (now s)) × (length (now heads) ≡ length (now places))
-        × Small (2 ^ 40) (now c) × Small (2 ^ 40) (now s) ⌝ }
+        × (length (now places) * 6 ≤ length (now c)) × (length (now places) * 6 ≤ length (now s))
+        × (length (now heads) ≡ length (now places)) × Small (2 ^ 40) (now c) × Small (2 ^ 40) (now s) ⌝ }
     ensures { λ r. ⌜ Gathered (now (e .entry)) (now (heads .exit)) (now (s .exit)) r
         (nonzero (rowsOf (now (e .entry)) (now (c .entry)) (length (now (places .entry))))) ⌝ }
 {

@@ -4,7 +4,7 @@ ghost use mathlib.Core.Path.{_≡_};
 ghost use mathlib.Core.List.{List, map};
 ghost use Prim.Native.Nat.{ℕ, _+_, _*_, _^_, _≤_, _<_};
 ghost use lib.ListN.{length, getD, drop};
-ghost use lib.IntN.{pos, natAbs};
+ghost use lib.IntN.{natAbs};
 ghost use Rattle.model.specs.Limits.{maxExponent};
 ghost use Rattle.model.specs.Set.{plusℤ, plusℕ};
 ghost use Rattle.model.specs.Finish.{allEven, shift, growth, size};
@@ -12,7 +12,6 @@ ghost use Rattle.whole.specs.Tab.{tab, any};
 ghost use lib.Dec.{ltb};
 ghost use Rattle.rows.specs.WorkSpace.{LeftOpen};
 ghost use Rattle.rows.specs.Rows.{exponentRow, numberRow, Places, Small};
-ghost use Rattle.whole.specs.Write.{write};
 ghost use Rattle.fold.specs.Chosen.{chosen};
 ghost use Rattle.fold.specs.Marks.{unmarked};
 ghost use Rattle.fold.specs.Folding.{Under, Folding};
@@ -69,7 +68,7 @@ pub fn keep_rows(s: &mut [i64], n: usize, gone: &[bool; 860]) -> usize
         if gone[k] {
             k += 1;
         } else {
-            move_row(s, m, k);
+            rows::move_row(s, m, k);
             m += 1;
             k += 1;
         }
@@ -180,16 +179,5 @@ fn growth_by(even: bool, g: i64) -> u64
         whole::half_size_up(g)
     } else {
         whole::size(g)
-    }
-}
-
-// Row `from` of s goes to row `to`, at or before it.
-fn move_row(s: &mut [i64], to: usize, from: usize)
-    requires { ⌜ (to ≤ from) × (from * 6 + 6 ≤ length (now s)) ⌝ }
-    ensures { λ _. ⌜ now (s .exit) ≡ write (now (s .entry)) (to * 6) (λ j. getD (now (s .entry)) (from * 6 + j) (pos 0)) 6 ⌝ }
-{
-    for j in 0..6 {
-        let x = s[from * 6 + j];
-        s[to * 6 + j] = x;
     }
 }

@@ -11,13 +11,16 @@ use Rattle.whole.specs.Tab.{tab, any}
 use Rattle.model.specs.Limits.{maxExponent}
 use Rattle.model.specs.Set.{Term}
 use Rattle.model.specs.Finish.{Core, Folded, those, allEven, high, size, foldVector, foldTerm, foldAll, foldUntil}
+use Rattle.whole.specs.Tests.{any-found, any-none}
+use Rattle.model.proofs.Tests.{any-false}
+use Rattle.model.proofs.FoldsNothing.{all-pass}
 use Rattle.model.proofs.FoldOrder.{term-swap}
 use Rattle.model.proofs.FirstBySize.{termSize}
 use Rattle.rows.specs.Rows.{exponentRow, numberRow, termOf, terms, Places, Small}
 use Rattle.fold.specs.Chosen.{chosen}
 use Rattle.fold.specs.Marks.{at, unmarked}
 use Rattle.fold.specs.Folding.{Under, coreOf, Folding, folded-as, small-mono, under-mono}
-use Rattle.select.specs.Selected.{Selected, parted, until-parted, those-parted, few-left, left-within}
+use Rattle.select.specs.Selected.{Selected, parted, until-parted, those-parted, none-folded, few-left, left-within}
 
 -- a test of a row of exponents: whether all are even, or else whether one is too large
 abbrev pub test : Bool → List ℕ → Bool
@@ -111,6 +114,21 @@ pub passed-as : {e h : List ℕ} {s : List ℤ} {n m : ℕ} {c₀ c : List ℤ} 
 passed-as v e = record { is = v .is ∙ e; fewer = v .fewer; ready = v .ready; bounded = v .bounded }
 
 -- ---- the stages of terms
+module _ (e heads : List ℕ) (s : List ℤ) (n : ℕ) where
+  -- some exponent is too large, or none is
+  pub high-found : (i : ℕ) → i < n → test false (exponentRow e (getD heads i 0)) ≡ true → any high (terms e heads s n) ≡ true
+  unfolding terms
+  high-found i h g = any-found high n (termAt e heads s) i h g
+
+  pub high-none : ((i : ℕ) → i < n → test false (exponentRow e (getD heads i 0)) ≡ false) → any high (terms e heads s n) ≡ false
+  unfolding terms
+  high-none g = any-none high n (termAt e heads s) g
+
+pub all-low : (k : Core) (ts : List Term) → any high ts ≡ false → record { core = k; kept = ts } ≡ withoutHigh k ts
+all-low k ts h =
+    let low = any-false high ts h in
+    sym (ap₂ (λ (c : Core) (l : List Term). record { core = c; kept = l }) (none-folded high foldTerm k low) (all-pass high low))
+
 module _ (e heads : List ℕ) (s : List ℤ) (n : ℕ) (k : Core) where
   pub high-parted : (gone : List Bool) → ((i : ℕ) → i < n → at gone i ≡ test false (exponentRow e (getD heads i 0))) →
       parted foldTerm (termAt e heads s) n gone k ≡ withoutHigh k (terms e heads s n)

@@ -110,7 +110,8 @@ returns c =
       ready = record {
         few = omega (arith, few, upto, p .ensures .0 .0, s .pre .0);
         places-long =
-            omega (arith, few, upto, p .ensures .0 .0, lh, z .drop-zero .kept .0, length-front h t (p .result) (k .collect .kept .1 .1 .1 .0));
+            omega
+            (arith, few, upto, p .ensures .0 .0, lh, z .drop-zero .kept .0, length-front h t (p .result) (k .collect .kept .1 .1 .1 .0));
         rows-long = search needs;
         rows = z .drop-zero .ensures .0 .2 e
             (places-append e t (drop (p .result) h) (k .collect .ensures .0 .2)

@@ -20,7 +20,8 @@ returns c =
     let s = c .before in (
       (
         record {
-          is = few-left (size (s .args .weights)) foldGenerator (numberRow (s .args .g .now)) (s .args .limit) (s .args .n) _ (c .if1 .taken);
+          is = few-left (size (s .args .weights)) foldGenerator (numberRow (s .args .g .now)) (s .args .limit) (s .args .n) _
+              (c .if1 .taken);
           fewer = search needs;
           small = s .pre .2;
           bounded = bounded-none _ _ _;
