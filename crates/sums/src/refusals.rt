@@ -7,11 +7,11 @@ ghost use lib.ListN.{getD};
 ghost use Rattle.whole.specs.Tab.{tab, any};
 ghost use Rattle.model.specs.Limits.{maxTerms, maxGenerators, maxDisturbance};
 ghost use Rattle.model.specs.Run.{firstOf};
-ghost use Rattle.model.specs.Library.{ofSecond, badNext};
+ghost use Rattle.model.specs.Library.{ofSecond, ofRadii, ofLimits, badNext};
 ghost use Rattle.zonotope.specs.Record.{view, given};
 ghost use Rattle.zonotope.specs.Shape.{Sized};
 ghost use Rattle.zonotope.specs.Answer.{examined, orElse};
-ghost use Rattle.sums.specs.Causes.{ofRadii, beforeDisturbing, ofLimits, beforeReducing, beforeSumming, ofNext};
+ghost use Rattle.sums.specs.Causes.{beforeDisturbing, beforeReducing, beforeSumming, ofNext};
 use zonotope::Examined;
 use zonotope::PolyZonotope;
 
