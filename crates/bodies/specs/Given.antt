@@ -1,12 +1,18 @@
 -- The record of a body's set: it means that set, has no spare place, and its arrays have their lengths.
-use mathlib.Core.Path.{_≡_, _∙_}
-use mathlib.Core.List.{List}
-use mathlib.Core.Bool.{false}
-use Prim.Native.Nat.{ℕ}
+use mathlib.Core.Path.{_≡_, refl, sym, ap, ap₂, _∙_}
+use mathlib.Core.List.{List, [], _∷_}
+use mathlib.Core.Bool.{Bool, true, false, _||_, or-true, or-false}
+use Prim.Native.Nat.{ℕ, _<_}
+use native.Mathlib.Decide.{decLt}
+use native.Mathlib.Omega.{arith}
+use borrow.Author.Tests.{lt-ltb, le-ltb}
+use lib.Dec.{ltb, eqb}
 use Rattle.rational.specs.Sum.{All-imp}
-use Rattle.whole.specs.Tab.{length-tab}
+use Rattle.whole.specs.Tab.{any, length-tab}
+use Rattle.whole.specs.Tests.{any-or}
+use Rattle.model.specs.Limits.{maxExponent, fileIdentifiers, recordIdentifiers}
 use Rattle.model.specs.Set.{Zonotope}
-use Rattle.model.specs.Valid.{badCounts}
+use Rattle.model.specs.Valid.{badCounts, badRange}
 use Rattle.model.specs.Body.{givenSet}
 use Rattle.model.proofs.Accepted as model
 use Rattle.zonotope.specs.Record.{view, pack, spare, given}
@@ -26,6 +32,38 @@ pack-sized m = record {
   vectors = length-tab 144 _;
   radii = length-tab 6 _;
 }
+
+any-same : {A : Type 0} (p q : A → Bool) → ((a : A) → p a ≡ q a) → (l : List A) → any p l ≡ any q l
+unfolding any
+any-same p q e [] = refl
+any-same p q e (a ∷ l) = ap₂ _||_ (e a) (any-same p q e l)
+
+-- 6 in a file is 6 in a record, or an identifier that is too large for a file
+pub file-range : (m : Zonotope) → badRange fileIdentifiers m ≡ badRange recordIdentifiers m || any (ltb fileIdentifiers) (m .identifiers)
+unfolding badRange
+file-range m =
+    let here = any (λ k. eqb k 0 || ltb recordIdentifiers k) (m .identifiers) in
+    let large = any (ltb fileIdentifiers) (m .identifiers) in
+    let exponents = any (λ t. any (λ e. ltb maxExponent e) (t .exponents)) (m .terms) in
+    ap (_|| exponents)
+    (any-same (λ k. eqb k 0 || ltb fileIdentifiers k) (λ k. eqb k 0 || ltb recordIdentifiers k || ltb fileIdentifiers k) larger (m .identifiers)
+    ∙ any-or (λ k. eqb k 0 || ltb recordIdentifiers k) (ltb fileIdentifiers) (m .identifiers))
+    ∙ swap here large exponents
+  where
+    or-again : (a : Bool) → a || true ≡ a || true || true
+    or-again true = refl
+    or-again false = refl
+
+    larger : (k : ℕ) → eqb k 0 || ltb fileIdentifiers k ≡ eqb k 0 || ltb recordIdentifiers k || ltb fileIdentifiers k
+    larger k = go (decLt recordIdentifiers k) where
+      go : Dec (recordIdentifiers < k) → eqb k 0 || ltb fileIdentifiers k ≡ eqb k 0 || ltb recordIdentifiers k || ltb fileIdentifiers k
+      go (yes l) = rw (lt-ltb fileIdentifiers k (omega arith), lt-ltb recordIdentifiers k l) (or-again (eqb k 0))
+      go (no l) = rw (le-ltb recordIdentifiers k (omega arith), or-false (eqb k 0))
+
+    swap : (a b c : Bool) → a || b || c ≡ a || c || b
+    swap true b c = refl
+    swap false true c = sym (or-true c)
+    swap false false c = sym (or-false c)
 
 module _ (b : List ℕ) where
   pub given-shaped : Shaped (givenSet b)

@@ -3,9 +3,10 @@ ghost use mathlib.Core.Path.{_≡_};
 ghost use mathlib.Core.List.{map};
 ghost use mathlib.Core.Bool.{_||_};
 ghost use Prim.Native.Nat.{_+_, _*_, _^_, _≤_, _<_};
+ghost use lib.Dec.{ltb};
 ghost use lib.ListN.{length};
 ghost use lib.IntN.{natAbs};
-ghost use Rattle.whole.specs.Tab.{any};
+ghost use Rattle.whole.specs.Tab.{tab, any};
 ghost use Rattle.whole.specs.Write.{write};
 ghost use Rattle.model.specs.Bytes.{byte, number, signed, word, long, words};
 ghost use Rattle.model.specs.Field.{negative, beyond};
@@ -169,6 +170,19 @@ pub fn any_negative(b: &[u8], i: usize, n: usize) -> bool
     ensures { λ r. ⌜ r ≡ any negative (words (now (b .entry)) i n) ⌝ }
 {
     any_outside(b, i, n, 2147483648)
+}
+
+// Whether one of n unsigned numbers of 4 bytes is greater than the limit.
+pub fn any_above(b: &[u8], i: usize, n: usize, limit: u32) -> bool
+    requires { ⌜ i + 4 * n ≤ length (now b) ⌝ }
+    ensures { λ r. ⌜ r ≡ any (ltb limit) (tab n (λ k. number 4 (now (b .entry)) (i + 4 * k))) ⌝ }
+{
+    for k in 0..n {
+        if limit < unsigned_at(b, i + 4 * k) {
+            return true;
+        }
+    }
+    false
 }
 
 // Whether z is negative or greater than the limit.
