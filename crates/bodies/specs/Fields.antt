@@ -11,7 +11,8 @@ use lib.IntN.{ℤ}
 use Rattle.whole.specs.Tab.{tab}
 use Rattle.model.specs.Limits.{maxTerms, maxGenerators, maxHalfspaces}
 use Rattle.model.specs.Bytes.{word, words, long}
-use Rattle.model.specs.Body.{dimension, stepRows, stepColumns, stepLength, givenStep, termLimit, generatorLimit, halfspaceCount, halfspaceAt}
+use Rattle.model.specs.Body.{dimension, stepRows, stepColumns, stepLength, givenStep, termLimit, generatorLimit}
+use Rattle.model.specs.Body.{halfspaceCount, halfspaceAt}
 use Rattle.model.specs.Field.{badDimension}
 
 module _ (b : List ℕ) where
@@ -20,7 +21,7 @@ module _ (b : List ℕ) where
   abbrev pub stepCountsOut : Bool
   stepCountsOut = badDimension (stepRows b) || badDimension (stepColumns b)
 
-  -- c, A and Q have these numbers of entries
+  -- a body as long as its counts say, whose c, A and Q have these numbers of entries
   pub record StepBody (c a q : ℕ) : Type 0 where
     pub long : length b ≡ stepLength b
     pub constant : c ≡ stepRows b
@@ -28,6 +29,7 @@ module _ (b : List ℕ) where
     pub quadratic : q ≡ stepRows b * stepColumns b * stepColumns b
 
   -- ---- a disturbance
+  -- a body of n radii
   abbrev pub radiiLength : ℕ
   radiiLength = 1 + 4 * dimension b
 
@@ -41,10 +43,11 @@ module _ (b : List ℕ) where
   abbrev pub regionCountsOut : Bool
   regionCountsOut = badDimension (dimension b) || eqb (halfspaceCount b) 0 || ltb maxHalfspaces (halfspaceCount b)
 
+  -- where the last halfspace ends
   abbrev pub regionLength : ℕ
   regionLength = halfspaceAt b (halfspaceCount b)
 
-  -- normals and bounds have these numbers of entries
+  -- a body with counts in limits and as long as they say, whose normals and bounds have these numbers of entries
   pub record RegionBody (normals bounds : ℕ) : Type 0 where
     pub counts : regionCountsOut ≡ false
     pub long : length b ≡ regionLength

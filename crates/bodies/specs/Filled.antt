@@ -58,6 +58,16 @@ part-of g (suc n) f d zero = refl
 part-of g (suc n) f d (suc i) = part-of g n (λ t. f (suc t)) d i
 
 module _ (b : List ℕ) (k : SetCounts) where
+  -- the rows of the body, by their positions
+  abbrev exponentRows : List (List ℕ)
+  exponentRows = tab (k .terms) (λ t. tab (k .factors) (λ j. byte b (termsFrom k + t * termBytes k + j)))
+
+  abbrev coefficientRows : List (List ℤ)
+  coefficientRows = tab (k .terms) (λ t. words b (termsFrom k + k .factors + t * termBytes k) (k .dimension))
+
+  abbrev generatorRows : List (List ℤ)
+  generatorRows = tab (k .generators) (λ g. words b (generatorsFrom k + g * (4 * k .dimension)) (k .dimension))
+
   abbrev termOf : ℕ → Term
   termOf t = record {
     exponents = tab (k .factors) (λ j. byte b (termsFrom k + t * termBytes k + j));
@@ -68,12 +78,9 @@ module _ (b : List ℕ) (k : SetCounts) where
   pub packed : {ids : List ℕ} {c : List ℤ} {e : List ℕ} {g v : List ℤ} {r : List ℕ}
       → ids ≡ tab 12 (λ i. getD (tab (k .factors) (λ j. number 4 b (4 + 4 * j))) i 0)
       → c ≡ tab 6 (at (words b (centreFrom k) (k .dimension)))
-      → e ≡ tab 480 (λ x. getD (getD (tab (k .terms) (λ t. tab (k .factors) (λ j. byte b (termsFrom k + t * termBytes k + j)))) (x / 12) [])
-      (x % 12) 0)
-      → g ≡ tab 240 (λ x. at (getD (tab (k .terms) (λ t. words b (termsFrom k + k .factors + t * termBytes k) (k .dimension))) (x / 6) [])
-      (x % 6))
-      → v ≡ tab 144 (λ x. at (getD (tab (k .generators) (λ t. words b (generatorsFrom k + t * (4 * k .dimension)) (k .dimension))) (x / 6) [])
-      (x % 6))
+      → e ≡ tab 480 (λ x. getD (getD exponentRows (x / 12) []) (x % 12) 0)
+      → g ≡ tab 240 (λ x. at (getD coefficientRows (x / 6) []) (x % 6))
+      → v ≡ tab 144 (λ x. at (getD generatorRows (x / 6) []) (x % 6))
       → r ≡ tab 6 (λ j. getD (map natAbs (words b (radiiFrom k) (k .dimension))) j 0)
       → _≡_ {A = PolyZonotope} (record {
         dimension = k .dimension;

@@ -46,7 +46,8 @@ file-range m =
     let large = any (ltb fileIdentifiers) (m .identifiers) in
     let exponents = any (λ t. any (λ e. ltb maxExponent e) (t .exponents)) (m .terms) in
     ap (_|| exponents)
-    (any-same (λ k. eqb k 0 || ltb fileIdentifiers k) (λ k. eqb k 0 || ltb recordIdentifiers k || ltb fileIdentifiers k) larger (m .identifiers)
+    (any-same (λ k. eqb k 0 || ltb fileIdentifiers k) (λ k. eqb k 0 || ltb recordIdentifiers k || ltb fileIdentifiers k) larger
+    (m .identifiers)
     ∙ any-or (λ k. eqb k 0 || ltb recordIdentifiers k) (ltb fileIdentifiers) (m .identifiers))
     ∙ swap here large exponents
   where

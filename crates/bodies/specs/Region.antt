@@ -119,8 +119,8 @@ module _ (b : List ℕ) (ws vs : List ℤ) (h : RegionBody b (length ws) (length
       → x ≡ writeRows ws n (λ t j. word b (2 + t * (4 * n + 8) + 4 * j)) n (length vs) → x ≡ givenNormals b
   unfolding givenNormals
   normals-read n e r =
-      r
-      ∙ rw (e, h .bounds-long) (rows-full (dimension b) (entry b) (pos 0) (halfspaceCount b) ws (some-coordinate b (h .counts)) (h .normals-long))
+      let some = some-coordinate b (h .counts) in
+      r ∙ rw (e, h .bounds-long) (rows-full (dimension b) (entry b) (pos 0) (halfspaceCount b) ws some (h .normals-long))
 
   pub bounds-read : (n : ℕ) → n ≡ dimension b → {y : List ℤ}
       → y ≡ write vs 0 (λ t. long b (2 + 4 * n + t * (4 * n + 8))) (length vs) → y ≡ givenBounds b

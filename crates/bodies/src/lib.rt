@@ -29,7 +29,7 @@ const MAX_DISTURBANCE: u64 = 1048576;
 const MAX_HALFSPACES: usize = 8;
 
 // ---- a set
-// The counts of a set: coordinates, factors, terms, generators.
+// How many coordinates, factors, terms and generators a set has.
 struct SetCounts {
     dimension: usize,
     factors: usize,
@@ -85,6 +85,7 @@ pub fn large_identifier(b: &[u8]) -> bool
     words::any_above(b, 4, p, MAX_FILE_IDENTIFIER)
 }
 
+// The counts of a set.
 fn set_counts(b: &[u8]) -> SetCounts
     requires { ⌜ 4 ≤ length (now b) ⌝ }
     ensures { λ r. ⌜ r ≡ countsOf (now (b .entry)) ⌝ }

@@ -1,10 +1,5 @@
 // Fields whose body is a set: the start set and the sums.
 ghost use mathlib.Core.Path.{_≡_};
-ghost use Prim.Native.Nat.{_≤_};
-ghost use lib.Dec.{ltb};
-ghost use lib.ListN.{getD};
-ghost use Rattle.whole.specs.Tab.{tab, any};
-ghost use Rattle.model.specs.Limits.{fileIdentifiers};
 ghost use Rattle.model.specs.Body.{givenSet};
 ghost use Rattle.model.specs.Field.{start, tied, independent};
 ghost use Rattle.model.specs.Run.{noSet, firstOf};
@@ -19,9 +14,6 @@ ghost use Rattle.fields.specs.Sets.{ofLayout, ofContents, ofSummand};
 use answers::Changed;
 use zonotope::Examined;
 use zonotope::PolyZonotope;
-
-// The largest identifier in a file.
-const FILE_IDENTIFIERS: u32 = 65535;
 
 // A start set: the set itself, or a refusal with the record of no set.
 pub fn start(body: &[u8]) -> Changed
@@ -128,22 +120,8 @@ fn of_contents(s: PolyZonotope, body: &[u8]) -> Examined
     requires { ⌜ SetBody (now body) × (s ≡ pack (givenSet (now body))) ⌝ }
     ensures { λ r. ⌜ r ≡ examined (firstOf (ofContents (now (body .entry)))) ⌝ }
 {
-    let p = s.factors;
-    if any_beyond(&s.identifiers, p) | bodies::negative_radius(body) {
+    if bodies::large_identifier(body) | bodies::negative_radius(body) {
         return Examined::Refused(6);
     }
     zonotope::examine(s)
-}
-
-// Whether one of the first p identifiers is none of a file.
-fn any_beyond(ids: &[u32; 12], p: usize) -> bool
-    requires { ⌜ p ≤ 12 ⌝ }
-    ensures { λ r. ⌜ r ≡ any (ltb fileIdentifiers) (tab p (λ i. getD (now (ids .entry)) i 0)) ⌝ }
-{
-    for i in 0..p {
-        if FILE_IDENTIFIERS < ids[i] {
-            return true;
-        }
-    }
-    false
 }

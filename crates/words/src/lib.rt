@@ -62,13 +62,14 @@ fn size_at(b: &[u8], i: usize) -> u32
     whole::size_i32(word_at(b, i)) as u32
 }
 
+// A byte as a number of 64 bits.
 fn wide(x: u8) -> usize
     ensures { λ r. ⌜ (r ≡ x) × (r < 256) ⌝ }
 {
     x as usize
 }
 
-// The signed number whose bits are n: as far below 0 as n is below the first number that has no bits.
+// The signed number whose bits are n: n itself, or as far below -1 as n is below the largest pattern.
 fn signed_32(n: u32) -> i32
     ensures { λ r. ⌜ r ≡ signed (2 ^ 31) n ⌝ }
 {
