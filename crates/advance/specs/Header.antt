@@ -1,10 +1,25 @@
 -- What is known of a field before its body is read.
+use mathlib.Core.Path.{_≡_}
 use mathlib.Core.List.{List, [], _∷_}
-use Prim.Native.Nat.{ℕ}
+use mathlib.Core.Option.{none}
+use mathlib.Core.Bool.{false}
+use Prim.Native.Nat.{ℕ, _≤_}
+use borrow.Author.Tests.{ltb-false}
 use lib.Dec.{ltb}
 use Rattle.model.specs.Limits.{lastField}
-use Rattle.model.specs.Run.{Cause, _if_, misplaced, cut}
+use Rattle.model.specs.Run.{Cause, _if_, firstOf, misplaced, cut}
+use Rattle.zonotope.specs.Valid.{passed}
 
 -- too many fields: 12; the tag: 2; the end of the input: 1
 abbrev pub ofHeader : ℕ → List ℕ → List Cause
 ofHeader count f = (12 if ltb lastField count) ∷ (2 if misplaced count f) ∷ (1 if cut f) ∷ []
+
+-- a header that nothing refuses
+pub header-passed : (count : ℕ) (f : List ℕ) → firstOf (ofHeader count f) ≡ none
+    → (count ≤ lastField) × (misplaced count f ≡ false) × (cut f ≡ false)
+unfolding firstOf
+header-passed count f e =
+    let late = passed (ltb lastField count) 12 e in
+    let tag = passed (misplaced count f) 2 (late .1) in
+    let end = passed (cut f) 1 (tag .1) in
+    (ltb-false lastField count (late .0), tag .0, end .0)

@@ -1,27 +1,27 @@
 -- What a field answers and leaves, by what its kind makes of the body.
 use mathlib.Core.Path.{_≡_, refl, sym, _∙_, ap, subst}
-use mathlib.Core.List.{List, [], _∷_, _++_}
+use mathlib.Core.List.{List, [], _∷_}
 use mathlib.Core.Option.{Option, none, some}
-use mathlib.Core.Bool.{Bool, true, false, cond, not, true≢false}
+use mathlib.Core.Bool.{Bool, true, false, cond, not, _&&_, _||_, true≢false}
 use Prim.Native.Nat.{ℕ, zero, suc, _+_, _<_, _≤_}
 use native.Mathlib.Omega.{arith}
 use borrow.Author.Tests.{ltb-true, ltb-false, not-false}
-use lib.Dec.{ltb, eqb}
+use lib.Dec.{ltb}
 use lib.ListN.{length}
-use Rattle.whole.specs.Tab.{tab, any}
 use Rattle.whole.specs.Tests.{or-left, or-right}
-use Rattle.rational.specs.Sum.{All}
-use Rattle.model.specs.Limits.{firstFresh, recordIdentifiers}
+use Rattle.rational.specs.Sum.{All, more, All-imp}
+use Rattle.model.specs.Limits.{firstFresh, lastFresh}
 use Rattle.model.specs.Set.{Zonotope}
 use Rattle.model.specs.Operations.{box}
 use Rattle.model.specs.Field as Model
-use Rattle.model.specs.Field.{Kind, start, step, disturbance, independent, tied, reduction, check, unknown, inside, verdict, meaning}
+use Rattle.model.specs.Field.{Kind, start, step, disturbance, independent, tied, reduction, check, unknown, inside, refused, skipped}
+use Rattle.model.specs.Field.{meaning}
 use Rattle.model.specs.Run as Run
-use Rattle.model.specs.Run.{tag, body, kindOf, current, refusal, meant, after, outcome, answer, firstOf, ofBody, misplaced, cut}
-use Rattle.model.proofs.Tests.{any-false}
+use Rattle.model.specs.Run.{tag, body, kindOf, current, refusal, meant, after, outcome, firstOf, causes, ofBody, misplaced, cut}
+use Rattle.model.proofs.Tests.{any-false, no-cause}
 use Rattle.model.proofs.Shape as Shape
 use Rattle.model.proofs.Held.{Held, held}
-use Rattle.model.proofs.Accepted.{no-refusal, first-starts}
+use Rattle.model.proofs.Accepted.{Passed, first-starts}
 use Rattle.model.proofs.ByKind.{starts, leaves}
 use Rattle.zonotope.specs.declared.PolyZonotope.{PolyZonotope}
 use Rattle.zonotope.specs.declared.Examined.{Examined}
@@ -32,26 +32,24 @@ use Rattle.zonotope.specs.Answer.{orElse, first-append}
 use Rattle.zonotope.proofs.ViewPack.{view-pack}
 use Rattle.answers.specs.declared.Changed.{Changed}
 use Rattle.answers.specs.Answer.{answered}
-use Rattle.answers.specs.Accepted.{view-shaped}
+use Rattle.answers.specs.Chain.{holdable, accepted-valid}
 use Rattle.stepping.specs.Work.{worked}
 use Rattle.fields.specs.Refusal.{bodyRefusal, resultOf}
 use Rattle.states.specs.declared.State.{State}
-use Rattle.states.specs.declared.Outcome as Outcome
-use Rattle.states.specs.declared.Outcome.the-variants as outcome
+use Rattle.states.specs.declared.Outcome.the-variants as said
 use Rattle.states.specs.State.{viewed, left}
-use Rattle.states.specs.Answer.{parts, noBox, answerOf}
+use Rattle.states.specs.Answer.{parts, noBox, outcomeOf, boxOf, answerOf}
 use Rattle.states.specs.Taken.{taken}
-use Rattle.states.specs.Recorded.{shaped}
 use Rattle.advance.specs.declared.Advanced.{Advanced}
-use Rattle.advance.specs.Header.{ofHeader}
+use Rattle.advance.specs.Header.{ofHeader, header-passed}
 use Rattle.advance.specs.Running.{Running, current-is}
-use Rattle.advance.specs.Advanced.{stepWorked, advanced}
+use Rattle.advance.specs.Advanced.{isStep, stepWorked, advanced, byCause, kindAdvanced}
 
 -- ---- an accepted field and a refused one
 -- a field that leaves this set answers with its box
 abbrev pub acceptedAs : State → ℕ → ℕ → PolyZonotope → Bool → Advanced
 acceptedAs st bytes next s worked = record {
-  answer = parts (st .count) bytes outcome.Inside (box (view s));
+  answer = parts (st .count) bytes said.Inside (box (view s));
   state = record { set = s; next = next; count = st .count + 1; over = false };
   worked = worked;
 }
@@ -59,7 +57,7 @@ acceptedAs st bytes next s worked = record {
 -- a refused one ends the run
 abbrev pub refusedAs : State → ℕ → ℕ → ℕ → Bool → Advanced
 refusedAs st place bytes n worked = record {
-  answer = parts (st .count) bytes (outcome.Refused (record { number = n; place = place })) noBox;
+  answer = parts (st .count) bytes (said.Refused (record { number = n; place = place })) noBox;
   state = record { set = st .set; next = st .next; count = st .count; over = true };
   worked = worked;
 }
@@ -72,8 +70,8 @@ concludedBy (Refused n) st place bytes next s worked = refusedAs st place bytes 
 abbrev pub concluded : State → ℕ → ℕ → ℕ → Changed → Bool → Advanced
 concluded st place bytes next r worked = concludedBy (r .outcome) st place bytes next (r .set) worked
 
--- ---- a field whose header passed, in a run that isn't over
--- the kinds that answer with a box
+-- ---- kinds
+-- those that answer with a box
 abbrev pub boxes : Kind → Bool
 boxes start = true
 boxes step = true
@@ -96,20 +94,99 @@ answers-box reduction b next s e = refl
 answers-box check b next s e = absurd (true≢false (sym e))
 answers-box unknown b next s e = absurd (true≢false (sym e))
 
-module _ (st : State) (f : List ℕ) (run : Running st) (on : st .over ≡ false) (header : firstOf (ofHeader (st .count) f) ≡ none) where
-  abbrev now : Run.State
-  now = viewed st
+-- what a body that nothing refuses passed
+body-passed : (k : Kind) (b : List ℕ) (next : ℕ) (s : Zonotope) → bodyRefusal k b next s ≡ none → Passed (meaning k b next s)
+body-passed k b next s e = go (no-cause (ofBody (meaning k b next s) (length b)) e)
+  where
+    go : All (λ c. c .holds ≡ false) (ofBody (meaning k b next s) (length b)) → Passed (meaning k b next s)
+    go (more short (more counts (more bytes (more sizes (more range (more order (more wide (more many (more result t))))))))) = record {
+      counts = counts;
+      dimension = sizes;
+      range = range;
+      order = order;
+      width = wide;
+      factors = many;
+      result-width = result;
+    }
 
+-- ---- a state that a run can have
+module _ (st : State) (run : Running st) where
+  -- the next identifier is in its range
+  from-first : firstFresh ≤ st .next
+  from-first = ltb-false (st .next) firstFresh (or-left (ltb (st .next) firstFresh) (ltb lastFresh (st .next)) (or-left _ _ (run .next)))
+
+  pub not-last : st .next ≤ lastFresh
+  not-last = ltb-false lastFresh (st .next) (or-right (ltb (st .next) firstFresh) (ltb lastFresh (st .next)) (or-left _ _ (run .next)))
+
+  -- its set is held
+  pub now-held : 0 < st .count → Held (st .next) (current (viewed st))
+  now-held h =
+      let below = or-right (ltb (st .next) firstFresh || ltb lastFresh (st .next)) _ (run .next) in
+      let valid = subst (Shape.Valid _) (sym (current-is st h)) (accepted-valid (st .set) (run .set h .passed)) in
+      held (st .next) valid
+      (All-imp (λ k e. ltb-true k (st .next) (not-false _ e)) (any-false (λ k. not (ltb k (st .next))) (current (viewed st) .identifiers) below))
+
+  -- a field of this kind and body, which is a start set or finds a set
+  module _ (k : Kind) (b : List ℕ) (there : starts k ≡ false → 0 < st .count) where
+    abbrev m : Model.Meaning
+    m = meaning k b (st .next) (current (viewed st))
+
+    abbrev cause : Option ℕ
+    cause = bodyRefusal k b (st .next) (current (viewed st))
+
+    -- what it leaves can be written as a record
+    pub result-means : cause ≡ none → (view (pack (m .result)) ≡ m .result) × InLimits (pack (m .result))
+    unfolding pack
+    result-means e =
+        let h = leaves k b (st .next) (current (viewed st)) from-first (λ q. now-held (there q)) (body-passed k b (st .next) (current (viewed st)) e) .holds in
+        let counts = Shape.counts-false (h .counts) in
+        (view-pack (m .result) (holdable (h .shaped)) counts, countable (m .result) counts)
+
+    -- a field that answers with a box, and the set that the call gave
+    pub box-advanced : (place bytes : ℕ) (s : PolyZonotope) {r : Changed} → boxes k ≡ true → r ≡ answered cause s (m .result)
+        → concluded st place bytes (m .next) r (isStep k && worked cause) ≡ kindAdvanced place st k b bytes
+    unfolding kindAdvanced left answerOf
+    box-advanced place bytes s {r} e p =
+        ap (λ (x : Changed). concluded st place bytes (m .next) x (isStep k && worked cause)) p ∙ go cause refl
+      where
+        go : (o : Option ℕ) → cause ≡ o → concluded st place bytes (m .next) (answered o s (m .result)) (isStep k && worked o)
+            ≡ byCause place st k b bytes o
+        go none q =
+            ap (λ (v : Model.Outcome). record {
+              answer = parts (st .count) bytes (outcomeOf v) (boxOf v);
+              state = record { set = pack (m .result); next = m .next; count = st .count + 1; over = false };
+              worked = isStep k && true;
+            }) (ap (λ (u : Zonotope). inside (box u)) (result-means q .0) ∙ sym (answers-box k b (st .next) (current (viewed st)) e))
+        go (some n) q = refl
+
+    -- the set of a call that accepts is in limits
+    pub box-limits : (s : PolyZonotope) {r : Changed} → r ≡ answered cause s (m .result) → r .outcome ≡ Accepted → InLimits (r .set)
+    box-limits s {r} p a = go cause refl p
+      where
+        go : (o : Option ℕ) → cause ≡ o → r ≡ answered o s (m .result) → InLimits (r .set)
+        go none q p = subst (λ (x : Changed). InLimits (x .set)) (sym p) (result-means q .1)
+        go (some n) q p = let z : _≡_ {A = ℕ} 0 1 = cc (sym a ∙ ap (λ (x : Changed). x .outcome) p) in absurd (omega arith)
+
+-- ---- a field whose header passed, in a run that isn't over
+module _ (st : State) (f : List ℕ) (on : st .over ≡ false) (header : firstOf (ofHeader (st .count) f) ≡ none) where
   -- it is refused by its body or not at all
-  pub refusal-is : refusal now f ≡ bodyRefusal (kindOf (tag f)) (body f) (st .next) (current now)
-  refusal-is = ?
+  refusal-is : refusal (viewed st) f ≡ bodyRefusal (kindOf (tag f)) (body f) (st .next) (current (viewed st))
+  unfolding viewed causes
+  refusal-is =
+      first-append (ofHeader (st .count) f) (ofBody (meant (viewed st) f) (length (body f)))
+      ∙ ap (λ o. orElse o (firstOf (ofBody (meant (viewed st) f) (length (body f))))) header
 
-  -- what it leaves can be written as a record
-  pub result-means : bodyRefusal (kindOf (tag f)) (body f) (st .next) (current now) ≡ none
-      → (view (pack (meant now f .result)) ≡ meant now f .result) × InLimits (pack (meant now f .result))
-  result-means e = ?
+  pub advanced-is : (place : ℕ) → advanced place st f ≡ kindAdvanced place st (kindOf (tag f)) (body f) (length f)
+  unfolding advanced kindAdvanced taken after outcome viewed
+  advanced-is place = ?
 
-  pub box-advanced : (place : ℕ) (s : PolyZonotope) {r : Changed} → boxes (kindOf (tag f)) ≡ true
-      → r ≡ answered (bodyRefusal (kindOf (tag f)) (body f) (st .next) (current now)) s (meant now f .result)
-      → concluded st place (length f) (meant now f .next) r (stepWorked now f) ≡ advanced place st f
-  box-advanced place s e p = ?
+  -- one that is no start set finds a set
+  pub set-there : starts (kindOf (tag f)) ≡ false → 0 < st .count
+  set-there e = go (st .count) refl
+    where
+      passed : (st .count ≤ 4096) × (misplaced (st .count) f ≡ false) × (cut f ≡ false)
+      passed = header-passed (st .count) f header
+
+      go : (n : ℕ) → st .count ≡ n → 0 < st .count
+      go zero q = absurd (true≢false (sym (ap starts (first-starts f (subst (λ n. misplaced n f ≡ false) q (passed .1)) (passed .2))) ∙ e))
+      go (suc n) q = omega arith
