@@ -1,48 +1,11 @@
--- The entries of a region's normals and bounds.
-use mathlib.Core.Path.{_≡_, sym, _∙_, ap}
-use mathlib.Core.List.{List}
+-- What a region's counts and lengths tell.
+use mathlib.Core.Path.{_≡_}
 use mathlib.Core.Bool.{false, not, _||_}
-use Prim.Native.Nat.{ℕ, _+_, _-_, _*_, _<_, _≤_}
-use native.Mathlib.Nat.{mul-le-mul, le-refl, suc-mul}
-use native.Mathlib.Decide.{decLt}
-use native.Mathlib.Omega.{arith}
+use Prim.Native.Nat.{ℕ, _*_, _≤_}
+use native.Mathlib.Nat.{mul-le-mul}
 use borrow.Author.Tests.{ltb-false, eqb-true, not-false}
 use lib.Dec.{ltb, eqb}
-use lib.ListN.{length, take, drop, length-drop, List·getD-eq-default}
-use lib.Seq.{ext-getD, length-take-le, getD-take, getD-drop}
-use lib.IntN.{ℤ, pos, natAbs}
-use Rattle.whole.specs.Tab.{tab, any, length-tab, getD-tab, getD-tab-past}
-use Rattle.model.specs.Limits.{maxEntry}
-use Rattle.model.specs.Set.{at}
-use Rattle.model.specs.Field.{beyond}
-use Rattle.whole.specs.Tests.{or-left, or-right, none-at, any-list}
-use Rattle.bounds.specs.Along.{Entries}
-
--- entries none of which is beyond the limit
-pub entries-within : (xs : List ℤ) → any (beyond maxEntry) xs ≡ false → Entries xs
-entries-within xs e = record { within = λ k. go k (decLt k (length xs)) }
-  where
-    go : (k : ℕ) → Dec (k < length xs) → natAbs (at xs k) ≤ maxEntry
-    go k (yes h) = ltb-false maxEntry (natAbs (at xs k)) (none-at (beyond maxEntry) (length xs) (at xs)
-        (sym (any-list (beyond maxEntry) (pos 0) xs) ∙ e) k h)
-    go k (no h) = omega (arith, ap natAbs (List·getD-eq-default xs (pos 0) {n = k} (omega arith)))
-
--- one normal, as a part of the slice
-module _ (xs : List ℤ) (a n : ℕ) where
-  pub part-entries : Entries xs → Entries (tab n (λ j. at xs (a + j)))
-  part-entries e = record { within = λ k. go k (decLt k n) }
-    where
-      go : (k : ℕ) → Dec (k < n) → natAbs (at (tab n (λ j. at xs (a + j))) k) ≤ maxEntry
-      go k (yes h) = omega (arith, ap natAbs (getD-tab n (λ j. at xs (a + j)) (pos 0) k h), e .within (a + k))
-      go k (no h) = omega (arith, ap natAbs (getD-tab-past n (λ j. at xs (a + j)) (pos 0) k (omega arith)))
-
-  pub part-tab : a + n ≤ length xs → take (a + n - a) (drop a xs) ≡ tab n (λ j. at xs (a + j))
-  part-tab h =
-      let e : a + n - a ≡ n = omega arith in
-      let l : length (take n (drop a xs)) ≡ n = length-take-le n (drop a xs) (omega (arith, length-drop a xs)) in
-      rw e (ext-getD (pos 0) (take n (drop a xs)) (tab n (λ j. at xs (a + j))) (l ∙ sym (length-tab n (λ j. at xs (a + j)))) (λ j m.
-      getD-take n (drop a xs) j (pos 0) (omega arith) ∙ getD-drop a xs j (pos 0)
-      ∙ sym (getD-tab n (λ j. at xs (a + j)) (pos 0) j (omega arith))))
+use Rattle.whole.specs.Tests.{or-left, or-right}
 
 -- how many entries counts in limits give
 pub few : (n count : ℕ) → (eqb n 0 || ltb 6 n || eqb count 0 || ltb 8 count) ≡ false → count * n ≤ 48
@@ -52,10 +15,6 @@ few n count e =
     let h = ltb-false 6 n (or-right (eqb n 0) (ltb 6 n) ab) in
     let k = ltb-false 8 count (or-right (eqb n 0 || ltb 6 n || eqb count 0) (ltb 8 count) e) in
     mul-le-mul k h
-
--- row k of `count` rows of n lies in them
-pub row-within : (k n count : ℕ) → k < count → k * n + n ≤ count * n
-row-within k n count h = omega (arith, mul-le-mul h (le-refl n), suc-mul k n)
 
 -- both lengths are what the counts give
 pub same-lengths : (a b c d : ℕ) → (not (eqb a b) || not (eqb c d)) ≡ false → (a ≡ b) × (c ≡ d)

@@ -1,18 +1,13 @@
 // The box around a set, and the check of a set against an unsafe region.
 ghost use mathlib.Core.Path.{_≡_};
-ghost use Prim.Native.Nat.{_≤_, _<_};
-ghost use lib.IntN.{natAbs, _*ℤ_};
-ghost use Rattle.model.specs.Operations.{lowAlong, safe};
+ghost use Rattle.model.specs.Operations.{safe};
 ghost use Rattle.model.specs.Run.{firstOf};
+ghost use Rattle.model.specs.Library.{ofRegion};
 ghost use Rattle.zonotope.specs.Record.{view, given};
 ghost use Rattle.zonotope.specs.Counts.{InLimits};
-ghost use Rattle.bounds.specs.Box.{axis};
-ghost use Rattle.bounds.specs.Six.{six};
-ghost use Rattle.bounds.specs.Answer.{boundsOf, halfspaces, ofRegion, judged, verdictOf};
-
-mod along;
-mod region;
-
+ghost use Rattle.verdicts.specs.Region.{halfspaces};
+ghost use Rattle.bounds.specs.Answer.{boundsOf, judged, verdictOf};
+use verdicts::region;
 use zonotope::Examined;
 use zonotope::MAX_DIMENSION;
 use zonotope::PolyZonotope;
@@ -50,8 +45,9 @@ pub fn box_of(s: PolyZonotope) -> Bounds
             Bounds { outcome, low, high }
         }
         Examined::Accepted => {
-            let low = ends(s, 1);
-            let high = ends(s, -1);
+            let ends = verdicts::ends_of(s);
+            let low = ends.low;
+            let high = ends.high;
             Bounds { outcome, low, high }
         }
     }
@@ -67,29 +63,6 @@ pub fn check(s: PolyZonotope, n: usize, count: usize, normals: &[i32], bounds: &
         Examined::Refused(number) => Verdict::Refused(number),
         Examined::Accepted => judge(s, n, count, normals, bounds),
     }
-}
-
-// The ends of all coordinates: the low ones for c = 1, the high ones for c = -1.
-fn ends(s: PolyZonotope, c: i32) -> [i64; 6]
-    requires { ⌜ InLimits s × (natAbs c ≤ 1) ⌝ }
-    ensures { λ r. ⌜ r ≡ six (s .dimension) (λ i. c *ℤ lowAlong (axis i c) (view s)) ⌝ }
-{
-    let n = s.dimension;
-    let mut out = [0i64; 6];
-    for i in 0..n {
-        out[i] = end(s, i, c);
-    }
-    out
-}
-
-// c times the lower end along c times axis i.
-fn end(s: PolyZonotope, i: usize, c: i32) -> i64
-    requires { ⌜ InLimits s × (i < 6) × (natAbs c ≤ 1) ⌝ }
-    ensures { λ r. ⌜ r ≡ c *ℤ lowAlong (axis i c) (view s) ⌝ }
-{
-    let mut a = [0i32; 6];
-    a[i] = c;
-    whole::multiply_add(0, whole::widen(c), along::lower_end(s, &a))
 }
 
 // The verdict on a valid set.

@@ -38,6 +38,15 @@ ofSecond first g =
     ∷ (8 if tooWide (g .set))
     ∷ []
 
+-- an unsafe region of `count` halfspaces in n coordinates, normals one after the other, for a check of a set: 4, 3, 5, 6
+abbrev pub ofRegion : ℕ → ℕ → List ℤ → List ℤ → Zonotope → List Cause
+ofRegion n count normals bounds s =
+    (4 if badDimension n || eqb count 0 || ltb maxHalfspaces count)
+    ∷ (3 if differs (length normals) (count * n) || differs (length bounds) count)
+    ∷ (5 if differs n (s .dimension))
+    ∷ (6 if any (beyond maxEntry) normals || any (beyond maxBound) bounds)
+    ∷ []
+
 -- ---- the calls: their causes, and what they give
 unfoldable pub examine : Given → Option ℕ
 examine g = firstOf (ofFirst g)
@@ -82,15 +91,9 @@ reduceRefusal termLimit generatorLimit g =
     ++ (ofLimits termLimit generatorLimit
     ++ ((10 if tooWide (reduce standardWeights termLimit generatorLimit (g .set))) ∷ [])))
 
--- `count` halfspaces in n coordinates: normals one after the other, and their bounds
+-- a check of a set against a region
 unfoldable pub checkRefusal : ℕ → ℕ → List ℤ → List ℤ → Given → Option ℕ
-checkRefusal n count normals bounds g =
-    firstOf (ofFirst g
-    ++ ((4 if badDimension n || eqb count 0 || ltb maxHalfspaces count)
-    ∷ (3 if differs (length normals) (count * n) || differs (length bounds) count)
-    ∷ (5 if differs n (g .set .dimension))
-    ∷ (6 if any (beyond maxEntry) normals || any (beyond maxBound) bounds)
-    ∷ []))
+checkRefusal n count normals bounds g = firstOf (ofFirst g ++ ofRegion n count normals bounds (g .set))
 
 -- 4: a step's count of coordinates is out of limits
 abbrev pub badStepCounts : Step.Step → Bool

@@ -12,6 +12,7 @@ use Rattle.model.specs.Set.{Zonotope}
 use Rattle.model.specs.Valid.{badCounts}
 use Rattle.zonotope.specs.declared.PolyZonotope.{PolyZonotope}
 use Rattle.zonotope.specs.Record.{view}
+use Rattle.zonotope.specs.Causes.{countsOut}
 use Rattle.whole.specs.Tests.{or-left, or-right}
 
 -- n coordinates, p factors, h terms and q generators
@@ -51,9 +52,7 @@ countable m e =
     }
 
 -- the counts of a record are those of its set
-pub view-counts : (s : PolyZonotope) → badCounts (view s) ≡
-    (eqb (s .dimension) 0 || ltb maxDimension (s .dimension) || ltb maxFactors (s .factors) || ltb maxTerms (s .terms)
-    || ltb maxGenerators (s .generators))
+pub view-counts : (s : PolyZonotope) → badCounts (view s) ≡ countsOut (s .dimension) (s .factors) (s .terms) (s .generators)
 unfolding badCounts view
 view-counts s = simp length-tab
 

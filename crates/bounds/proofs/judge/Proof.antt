@@ -9,13 +9,15 @@ use borrow.Author.Tests.{eq-eqb, ne-eqb}
 use lib.ListN.{length}
 use Rattle.zonotope.specs.Record.{view}
 use Rattle.model.specs.Run.{firstOf}
+use Rattle.model.specs.Library.{ofRegion}
 use Rattle.model.specs.Field.{beyond}
 use Rattle.model.specs.Limits.{maxEntry, maxBound}
 use Rattle.model.specs.Operations.{safe}
 use Rattle.whole.specs.Tab.{any}
 use Rattle.whole.specs.Tests.{or-left}
-use Rattle.bounds.specs.Answer.{halfspaces, ofRegion, judged}
-use Rattle.bounds.specs.Region.{entries-within, few, same-lengths}
+use Rattle.verdicts.specs.Region.{halfspaces, entries-within}
+use Rattle.bounds.specs.Answer.{judged}
+use Rattle.bounds.specs.Region.{few, same-lengths}
 use Rattle.bounds.proofs.judge.Statement.{statement}
 use Rattle.bounds.proofs.judge.Tie as tie
 
