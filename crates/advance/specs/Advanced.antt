@@ -7,7 +7,7 @@ use Prim.Native.Nat.{ℕ, _+_}
 use Rattle.model.specs.Field.{Kind, start, step, disturbance, independent, tied, reduction, check, unknown, refused, meaning}
 use Rattle.model.specs.Run as Model
 use Rattle.model.specs.Run.{tag, kindOf, current, refusal}
-use Rattle.raw.specs.Append.{Kept}
+use Rattle.raw.specs.Append.{KeptFrom}
 use Rattle.stepping.specs.Work.{worked}
 use Rattle.fields.specs.Refusal.{bodyRefusal}
 use Rattle.states.specs.declared.State.{State}
@@ -42,7 +42,7 @@ advanced place st f = record {
 -- a work slice of which the first n places are used only where a step was worked out
 pub record Used {A : Type 0} (yes : Bool) (d : A) (n : ℕ) (before after : List A) : Type 0 where
   pub untouched : yes ≡ false → after ≡ before
-  pub kept : Kept d n before after
+  pub kept : KeptFrom d n before after
 
 -- ---- by the kind and the body, where the header passed and the run isn't over
 -- what is answered and left for a refusal, if any

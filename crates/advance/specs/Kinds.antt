@@ -32,7 +32,7 @@ use Rattle.zonotope.specs.Answer.{orElse, first-append}
 use Rattle.zonotope.proofs.ViewPack.{view-pack}
 use Rattle.answers.specs.declared.Changed.{Changed}
 use Rattle.answers.specs.Answer.{answered}
-use Rattle.answers.specs.Chain.{holdable, accepted-valid}
+use Rattle.answers.specs.Chain.{accepted-valid}
 use Rattle.stepping.specs.Work.{worked}
 use Rattle.fields.specs.Refusal.{bodyRefusal, resultOf}
 use Rattle.states.specs.declared.State.{State}
@@ -140,7 +140,7 @@ module _ (st : State) (run : Running st) where
     result-means e =
         let h = leaves k b (st .next) (current (viewed st)) from-first (λ q. now-held (there q)) (body-passed k b (st .next) (current (viewed st)) e) .holds in
         let counts = Shape.counts-false (h .counts) in
-        (view-pack (m .result) (holdable (h .shaped)) counts, countable (m .result) counts)
+        (view-pack (m .result) (h .shaped) counts, countable (m .result) counts)
 
     -- a field that answers with a box, and the set that the call gave
     pub box-advanced : (place bytes : ℕ) (s : PolyZonotope) {r : Changed} → boxes k ≡ true → r ≡ answered cause s (m .result)

@@ -10,12 +10,12 @@ use Rattle.model.specs.Run as Model
 use Rattle.model.specs.Run.{current}
 use Rattle.model.specs.Library.{badNext}
 use Rattle.zonotope.specs.Record.{view}
-use Rattle.answers.specs.Accepted.{Accepted}
+use Rattle.answers.specs.Accepted.{AcceptedRecord}
 use Rattle.states.specs.declared.State.{State}
 use Rattle.states.specs.State.{viewed}
 
 pub record Running (st : State) : Type 0 where
-  pub set : 0 < st .count → Accepted (st .set)
+  pub set : 0 < st .count → AcceptedRecord (st .set)
   pub next : badNext (st .next) (current (viewed st)) ≡ false
 
 -- the current set, where there is one

@@ -15,33 +15,23 @@ use Rattle.model.proofs.Held.{Held, held, held-valid}
 use Rattle.zonotope.specs.declared.PolyZonotope.{PolyZonotope}
 use Rattle.zonotope.specs.declared.Examined.the-variants.{Accepted}
 use Rattle.zonotope.specs.Record.{view, pack, spare, given}
-use Rattle.zonotope.specs.Shape.{Shaped}
-use Rattle.zonotope.specs.Valid.{Valid}
+use Rattle.zonotope.specs.Valid.{Unrefused}
 use Rattle.zonotope.specs.Answer.{refused}
 use Rattle.zonotope.proofs.ViewPack.{view-pack, spare-pack}
 use Rattle.answers.specs.declared.Changed.{Changed}
 use Rattle.answers.specs.Answer.{answered}
-use Rattle.answers.specs.Accepted.{view-shaped}
+use Rattle.zonotope.proofs.ViewPack.{view-shaped}
 
 -- a record that a call accepts, with 0 in every place that its counts leave unused
 pub record Usable (s : PolyZonotope) : Type 0 where
   pub accepted : examine (given s) ≡ none
   pub unused : spare s ≡ false
 
--- a shaped set is one that a record can hold
-pub holdable : {m : Zonotope} → Model.Shaped m → Shaped m
-holdable h = record {
-  centre = h .centre-long;
-  terms = All-imp (λ t r. record { exponents = r .exponents-long; coefficients = r .coefficients-long }) (h .rows);
-  generators = h .generators-long;
-  radii = h .radii-long;
-}
-
 -- The record of a valid set is usable.
 pub chained : (m : Zonotope) → Model.Valid recordIdentifiers m → Usable (pack m)
 unfolding examine firstOf
 chained m v =
-    let h = holdable (v .shaped) in
+    let h = v .shaped in
     let e = view-pack m h (v .counts) in
     let full = spare-pack m h in
     record { accepted = rw (e, full, v .counts, v .ranges, v .ordered, v .narrow); unused = full }
@@ -54,7 +44,7 @@ answer-chained (some n) s m v p e = refused n (ap (λ (x : Changed). x .outcome)
 
 -- ---- between what a call accepts and what a run holds
 -- what an accepted record means is valid
-pub accepted-valid : (s : PolyZonotope) → Valid (given s) → Model.Valid recordIdentifiers (view s)
+pub accepted-valid : (s : PolyZonotope) → Unrefused (given s) → Model.Valid recordIdentifiers (view s)
 accepted-valid s v =
     record { shaped = view-shaped s; counts = v .counts; ranges = v .range; ordered = v .order; narrow = v .narrow }
 

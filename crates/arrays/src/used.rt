@@ -5,7 +5,7 @@ ghost use lib.Dec.{ltb};
 ghost use lib.IntN.{pos};
 ghost use lib.ListN.{length, getD};
 ghost use Rattle.whole.specs.Tab.{tab, any};
-ghost use Rattle.model.specs.Valid.{order, isLess, rises, isZero, zeros, constant};
+ghost use Rattle.model.specs.Valid.{order, isLess, rises, isZero, zeros, factorless};
 ghost use Rattle.arrays.specs.Rows.{row, identifierOut, exponentOut};
 ghost use Rattle.whole.specs.Tests.{some-below, each-below};
 use crate::MAX_EXPONENT;
@@ -121,7 +121,7 @@ pub fn rows_rise(e: &[u8; 480], h: usize, p: usize) -> bool
 // Whether the first p exponents of row t are all 0.
 pub fn constant_row(e: &[u8; 480], t: usize, p: usize) -> bool
     requires { ⌜ (t < 40) × (p ≤ 12) ⌝ }
-    ensures { λ r. ⌜ r ≡ constant (row 12 0 (now (e .entry)) t p) ⌝ }
+    ensures { λ r. ⌜ r ≡ factorless (row 12 0 (now (e .entry)) t p) ⌝ }
 {
     for i in 0..p {
         if 0 < e[t * 12 + i] {
@@ -160,7 +160,7 @@ pub fn zero_rows(xs: &[i32], h: usize, n: usize) -> bool
 // Whether one of the first h rows of exponents is constant.
 pub fn constant_rows(e: &[u8; 480], h: usize, p: usize) -> bool
     requires { ⌜ (h ≤ 40) × (p ≤ 12) ⌝ }
-    ensures { λ r. ⌜ r ≡ some-below h (λ t. constant (row 12 0 (now (e .entry)) t p)) ⌝ }
+    ensures { λ r. ⌜ r ≡ some-below h (λ t. factorless (row 12 0 (now (e .entry)) t p)) ⌝ }
 {
     for t in 0..h {
         if constant_row(e, t, p) {

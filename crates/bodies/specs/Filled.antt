@@ -16,7 +16,7 @@ use Rattle.zonotope.specs.Record.{pack, noTerm}
 use Rattle.zonotope.specs.Counts.{countable}
 use Rattle.bodies.specs.declared.SetCounts.{SetCounts}
 use Rattle.bodies.specs.Rows.{Within, row-below}
-use Rattle.bodies.specs.Set.{countsOf, countsOut, SetBody, InLimits, Laid, setOf}
+use Rattle.bodies.specs.Set.{countsOf, countsOut, SetBody, InLimits, SetLaid, setOf}
 use Rattle.bodies.specs.Set.{centreFrom, termsFrom, termBytes, generatorsFrom, radiiFrom}
 
 -- ---- counts in limits
@@ -24,7 +24,7 @@ pub in-limits : (k : SetCounts) → countsOut k ≡ false → InLimits k
 unfolding badCounts
 in-limits k e = simp length-tab at (countable (setOf [] k) (simp length-tab e))
 
-pub laid : (b : List ℕ) → SetBody b → Laid (countsOf b) (length b)
+pub laid : (b : List ℕ) → SetBody b → SetLaid (countsOf b) (length b)
 laid b h = record { counts = in-limits (countsOf b) (h .counts); long = h .long }
 
 -- ---- positions
@@ -39,7 +39,7 @@ generators-small k l =
       mul-le-mul {n₁ = k .generators} {m₁ = 4 * k .dimension} {n₂ = 24} {m₂ = 24} (l .generators) (omega (arith, l .dimension)),
     )
 
-module _ (k : SetCounts) (body : ℕ) (h : Laid k body) where
+module _ (k : SetCounts) (body : ℕ) (h : SetLaid k body) where
   pub exponents-within : Within body (termsFrom k) (termBytes k) (k .factors) (k .terms)
   exponents-within = record { row = λ t l. omega (arith, row-below (termBytes k) t (k .terms) l, h .long) }
 

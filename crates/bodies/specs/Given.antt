@@ -14,10 +14,10 @@ use Rattle.model.specs.Limits.{maxExponent, fileIdentifiers, recordIdentifiers}
 use Rattle.model.specs.Set.{Zonotope}
 use Rattle.model.specs.Valid.{badCounts, badRange}
 use Rattle.model.specs.Body.{givenSet}
-use Rattle.model.proofs.Accepted as model
+use Rattle.model.proofs.Accepted.{given-shaped}
 use Rattle.zonotope.specs.Record.{view, pack, spare, given}
 use Rattle.zonotope.specs.Counts.{InLimits, countable}
-use Rattle.zonotope.specs.Shape.{Sized, Shaped}
+use Rattle.zonotope.specs.Shape.{Sized}
 use Rattle.zonotope.proofs.ViewPack.{view-pack, spare-pack}
 use Rattle.bodies.specs.Set.{setCountsOut}
 
@@ -67,25 +67,17 @@ file-range m =
     swap false false c = sym (or-false c)
 
 module _ (b : List ℕ) where
-  pub given-shaped : Shaped (givenSet b)
-  given-shaped = let h = model.given-shaped b in record {
-    centre = h .centre-long;
-    terms = All-imp (λ t r. record { exponents = r .exponents-long; coefficients = r .coefficients-long }) (h .rows);
-    generators = h .generators-long;
-    radii = h .radii-long;
-  }
-
   -- the counts of a body are those of its set
   pub given-counts : badCounts (givenSet b) ≡ setCountsOut b
   unfolding badCounts givenSet
   given-counts = simp length-tab
 
   pub given-spare : spare (pack (givenSet b)) ≡ false
-  given-spare = spare-pack (givenSet b) given-shaped
+  given-spare = spare-pack (givenSet b) (given-shaped b)
 
   module _ (counts : setCountsOut b ≡ false) where
     pub given-view : view (pack (givenSet b)) ≡ givenSet b
-    given-view = view-pack (givenSet b) given-shaped (given-counts ∙ counts)
+    given-view = view-pack (givenSet b) (given-shaped b) (given-counts ∙ counts)
 
     pub given-limits : InLimits (pack (givenSet b))
     unfolding pack

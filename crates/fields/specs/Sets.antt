@@ -21,7 +21,7 @@ use Rattle.model.specs.Library.{Given, ofFirst, examine}
 use Rattle.zonotope.specs.declared.PolyZonotope.{PolyZonotope}
 use Rattle.zonotope.specs.declared.Examined.{Examined}
 use Rattle.zonotope.specs.declared.Examined.the-variants.{Accepted, Refused}
-use Rattle.zonotope.specs.Valid.{Valid, passed}
+use Rattle.zonotope.specs.Valid.{Unrefused, passed}
 use Rattle.zonotope.specs.Record.{view, pack, given}
 use Rattle.zonotope.specs.Answer.{examined, orElse, first-append}
 use Rattle.answers.specs.declared.Changed.{Changed}
@@ -158,7 +158,7 @@ module _ (o p : Option ℕ) {w : Option ℕ} {r : Examined} (from : r ≡ examin
   refused-empty e q = rw q (answer-refused o p from order (pack noSet) m e)
 
 -- the summand of a sum that nothing refuses
-pub summand-accepted : (n : ℕ) (b : List ℕ) → firstOf (ofSummand n b) ≡ none → SetBody b × records.Accepted (pack (givenSet b)) × (dimension b ≡ n)
+pub summand-accepted : (n : ℕ) (b : List ℕ) → firstOf (ofSummand n b) ≡ none → SetBody b × records.AcceptedRecord (pack (givenSet b)) × (dimension b ≡ n)
 unfolding firstOf
 summand-accepted n b e =
     let parts = neither (firstOf (ofLayout b)) (firstOf ((5 if differs (dimension b) n) ∷ ofContents b)) (sym (first-append (ofLayout b) ((5 if differs (dimension b) n) ∷ ofContents b)) ∙ e) in
@@ -170,7 +170,7 @@ summand-accepted n b e =
       laid,
       record {
         sized = pack-sized (givenSet b);
-        passed = subst Valid (sym (given-record b (laid .counts))) (record {
+        passed = subst Unrefused (sym (given-record b (laid .counts))) (record {
           counts = given-counts b ∙ laid .counts;
           range = or-left (badRange recordIdentifiers (givenSet b)) (beyondFile b) (sym (range-parts b) ∙ range .0);
           full = refl;
@@ -181,7 +181,7 @@ summand-accepted n b e =
       equal (dimension b) n (dimensions .0),
     )
 
-pub second-summable : (first : PolyZonotope) (b : List ℕ) → records.Accepted first → firstOf (ofSummand (first .dimension) b) ≡ none
+pub second-summable : (first : PolyZonotope) (b : List ℕ) → records.AcceptedRecord first → firstOf (ofSummand (first .dimension) b) ≡ none
     → {second : PolyZonotope} → second ≡ pack (givenSet b) → Summable first second
 unfolding pack givenSet
 second-summable first b a e p =

@@ -6,7 +6,7 @@ ghost use Rattle.model.specs.Run.{noSet, firstOf};
 ghost use Rattle.zonotope.specs.Record.{view, pack};
 ghost use Rattle.zonotope.specs.Answer.{examined};
 ghost use Rattle.answers.specs.Answer.{answered};
-ghost use Rattle.answers.specs.Accepted.{Accepted};
+ghost use Rattle.answers.specs.Accepted.{AcceptedRecord};
 ghost use Rattle.summing.specs.Summable.{Next};
 ghost use Rattle.bodies.specs.Set.{SetBody};
 ghost use Rattle.fields.specs.Refusal.{bodyRefusal, resultOf};
@@ -29,7 +29,7 @@ pub fn start(body: &[u8]) -> Changed
 
 // A tied sum with the body's set.
 pub fn tied(first: PolyZonotope, body: &[u8]) -> Changed
-    requires { ⌜ Accepted first ⌝ }
+    requires { ⌜ AcceptedRecord first ⌝ }
     ensures { λ r. ⌜ r ≡ answered (bodyRefusal tied (now (body .entry)) 0 (view first)) first
         (resultOf tied (now (body .entry)) 0 (view first)) ⌝ }
 {
@@ -47,7 +47,7 @@ pub fn tied(first: PolyZonotope, body: &[u8]) -> Changed
 
 // An independent sum with the body's set, whose factors are numbered from `next` on.
 pub fn independent(first: PolyZonotope, next: u32, body: &[u8]) -> Changed
-    requires { ⌜ Accepted first × Next next ⌝ }
+    requires { ⌜ AcceptedRecord first × Next next ⌝ }
     ensures { λ r. ⌜ r ≡ answered (bodyRefusal independent (now (body .entry)) next (view first)) first
         (resultOf independent (now (body .entry)) next (view first)) ⌝ }
 {

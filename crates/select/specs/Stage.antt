@@ -10,7 +10,7 @@ use lib.IntN.{ℤ}
 use Rattle.whole.specs.Tab.{tab, any}
 use Rattle.model.specs.Limits.{maxExponent}
 use Rattle.model.specs.Set.{Term}
-use Rattle.model.specs.Finish.{Core, Folded, those, allEven, high, size, foldVector, foldTerm, foldAll, foldUntil}
+use Rattle.model.specs.Finish.{Core, Folded, those, allEven, tooHigh, size, foldVector, foldTerm, foldAll, foldUntil}
 use Rattle.whole.specs.Tests.{any-found, any-none}
 use Rattle.model.proofs.Tests.{any-false}
 use Rattle.model.proofs.FoldsNothing.{all-pass}
@@ -97,7 +97,7 @@ pub record GeneratorsPassed (g : List ℤ) (n m : ℕ) (c₀ c : List ℤ) (r₀
 
 -- the terms without an exponent that is too large, and the core that makes up for the others
 abbrev pub withoutHigh : Core → List Term → Folded Term
-withoutHigh k ts = record { core = foldAll foldTerm (those high ts) k; kept = those (λ t. not (high t)) ts }
+withoutHigh k ts = record { core = foldAll foldTerm (those tooHigh ts) k; kept = those (λ t. not (tooHigh t)) ts }
 
 -- what is left is ready for the next stage
 pub ready-after : {e h h′ : List ℕ} {s s′ : List ℤ} {n m : ℕ} → Ready e h s n → m ≤ n → length h′ ≡ length h → length s′ ≡ length s →
@@ -116,24 +116,24 @@ passed-as v e = record { is = v .is ∙ e; fewer = v .fewer; ready = v .ready; b
 -- ---- the stages of terms
 module _ (e heads : List ℕ) (s : List ℤ) (n : ℕ) where
   -- some exponent is too large, or none is
-  pub high-found : (i : ℕ) → i < n → test false (exponentRow e (getD heads i 0)) ≡ true → any high (terms e heads s n) ≡ true
+  pub high-found : (i : ℕ) → i < n → test false (exponentRow e (getD heads i 0)) ≡ true → any tooHigh (terms e heads s n) ≡ true
   unfolding terms
-  high-found i h g = any-found high n (termAt e heads s) i h g
+  high-found i h g = any-found tooHigh n (termAt e heads s) i h g
 
-  pub high-none : ((i : ℕ) → i < n → test false (exponentRow e (getD heads i 0)) ≡ false) → any high (terms e heads s n) ≡ false
+  pub high-none : ((i : ℕ) → i < n → test false (exponentRow e (getD heads i 0)) ≡ false) → any tooHigh (terms e heads s n) ≡ false
   unfolding terms
-  high-none g = any-none high n (termAt e heads s) g
+  high-none g = any-none tooHigh n (termAt e heads s) g
 
-pub all-low : (k : Core) (ts : List Term) → any high ts ≡ false → record { core = k; kept = ts } ≡ withoutHigh k ts
+pub all-low : (k : Core) (ts : List Term) → any tooHigh ts ≡ false → record { core = k; kept = ts } ≡ withoutHigh k ts
 all-low k ts h =
-    let low = any-false high ts h in
-    sym (ap₂ (λ (c : Core) (l : List Term). record { core = c; kept = l }) (none-folded high foldTerm k low) (all-pass high low))
+    let low = any-false tooHigh ts h in
+    sym (ap₂ (λ (c : Core) (l : List Term). record { core = c; kept = l }) (none-folded tooHigh foldTerm k low) (all-pass tooHigh low))
 
 module _ (e heads : List ℕ) (s : List ℤ) (n : ℕ) (k : Core) where
   pub high-parted : (gone : List Bool) → ((i : ℕ) → i < n → at gone i ≡ test false (exponentRow e (getD heads i 0))) →
       parted foldTerm (termAt e heads s) n gone k ≡ withoutHigh k (terms e heads s n)
   unfolding terms
-  high-parted gone h = sym (those-parted high foldTerm (termAt e heads s) n k gone h)
+  high-parted gone h = sym (those-parted tooHigh foldTerm (termAt e heads s) n k gone h)
 
   module _ (weights : List ℕ) (limit : ℕ) where
     pub terms-parted : {gone : List Bool} → Selected (λ i. size weights (numberRow s i)) limit n gone →

@@ -6,7 +6,7 @@ ghost use Prim.Native.Nat.{ℕ, _+_, _*_, _^_, _≤_, _<_};
 ghost use lib.ListN.{length, getD, drop};
 ghost use lib.IntN.{ℤ};
 ghost use Rattle.whole.specs.Tab.{tab, any};
-ghost use Rattle.model.specs.Finish.{high, size, foldTerm, foldGenerator, foldUntil};
+ghost use Rattle.model.specs.Finish.{tooHigh, size, foldTerm, foldGenerator, foldUntil};
 ghost use Rattle.model.proofs.FirstBySize.{termSize};
 ghost use Rattle.rows.specs.WorkSpace.{LeftOpen};
 ghost use Rattle.rows.specs.Rows.{exponentRow, numberRow, terms, Places, Small};
@@ -118,7 +118,7 @@ pub fn fold_generators(
 // Whether one of the first n terms has an exponent that is too large.
 fn any_high(e: &[u8], heads: &[u16], n: usize) -> bool
     requires { ⌜ (n ≤ length (now heads)) × Places (now e) (now heads) ⌝ }
-    ensures { λ r. ⌜ ((s : List ℤ) → r ≡ any high (terms (now (e .entry)) (now (heads .entry)) s n)) ⌝ }
+    ensures { λ r. ⌜ ((s : List ℤ) → r ≡ any tooHigh (terms (now (e .entry)) (now (heads .entry)) s n)) ⌝ }
 {
     for k in 0..n {
         let x = heads[k] as usize;

@@ -8,7 +8,7 @@ use native.Mathlib.Omega.{arith}
 use lib.ListN.{length, drop, replicate, length-drop}
 use lib.Seq.{ext-getD}
 use Rattle.whole.specs.Write.{getD-drop}
-use Rattle.raw.specs.Append.{Kept}
+use Rattle.raw.specs.Append.{KeptFrom}
 use Rattle.step.specs.Answer.{worked, leftIn}
 
 module _ {A : Type 0} (d : A) (n : ℕ) (before : List A) where
@@ -19,7 +19,7 @@ module _ {A : Type 0} (d : A) (n : ℕ) (before : List A) where
   pub left-alone : (o : Option ℕ) → worked o ≡ false → before ≡ leftIn o n d before
   left-alone o e = ap by-worked (sym e)
 
-  pub left-cleared : (o : Option ℕ) → worked o ≡ true → {after last : List A} → Kept d n before after → length after ≡ length before
+  pub left-cleared : (o : Option ℕ) → worked o ≡ true → {after last : List A} → KeptFrom d n before after → length after ≡ length before
       → last ≡ replicate n d ++ drop n after → last ≡ leftIn o n d before
   left-cleared o e {after} h l c =
       c

@@ -20,13 +20,13 @@ use Rattle.zonotope.specs.declared.Examined.{Examined}
 use Rattle.zonotope.specs.declared.Examined.the-variants.{Refused}
 use Rattle.zonotope.specs.Record.{given}
 use Rattle.zonotope.specs.Shape.{Sized}
-use Rattle.zonotope.specs.Valid.{Valid, valid, passed}
+use Rattle.zonotope.specs.Valid.{Unrefused, valid, passed}
 use Rattle.whole.specs.Tests.{or-left, or-right}
 use Rattle.zonotope.specs.Answer.{examined, orElse, first-append}
 use Rattle.image.specs.StepAccepted.{StepAccepted}
 use Rattle.answers.specs.Answer.{ofResult, isRefused, none-refuses}
 use Rattle.answers.specs.Order.{in-order, neither}
-use Rattle.answers.specs.Accepted.{Accepted}
+use Rattle.answers.specs.Accepted.{AcceptedRecord}
 use Rattle.stepping.specs.Work.{workNumbers, workExponents}
 use Rattle.step.specs.Answer.{noRoom, worked}
 
@@ -100,7 +100,7 @@ module _ (short : Bool) (p : Step) (g : Given) {r : Examined} (from : r ≡ exam
 -- ---- what is left where nothing refuses
 -- room, an accepted set, an accepted step
 pub record Acceptable (s : PolyZonotope) (p : Step) (numbers exponents : ℕ) : Type 0 where
-  pub set : Accepted s
+  pub set : AcceptedRecord s
   pub step : StepAccepted p
   pub numbers-room : workNumbers ≤ numbers
   pub exponents-room : workExponents ≤ exponents
@@ -115,7 +115,7 @@ step-in p dimension e =
 
 -- what a step with an accepted set passed
 pub set-and-step-in : (s : PolyZonotope) (p : Step) (short : Bool) → beforeStepping short p (given s) ≡ none
-    → (short ≡ false) × Valid (given s) × StepAccepted p
+    → (short ≡ false) × Unrefused (given s) × StepAccepted p
 set-and-step-in s p short e =
     let room = passed short 13 e in
     let parts = neither (examine (given s)) (firstOf (ofStep p (given s .set .dimension))) (room .1) in

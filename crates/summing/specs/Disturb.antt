@@ -23,13 +23,14 @@ use Rattle.zonotope.specs.Counts.{InLimits, countable}
 use Rattle.whole.specs.Tests.{none-at, any-list}
 use Rattle.zonotope.proofs.ViewPack.{view-pack}
 use Rattle.align.specs.Examined.{radii-wide, radii-small}
-use Rattle.answers.specs.Accepted.{Accepted, view-shaped, own-record}
+use Rattle.answers.specs.Accepted.{AcceptedRecord, own-record}
+use Rattle.zonotope.proofs.ViewPack.{view-shaped}
 use Rattle.answers.specs.Chain.{holdable}
 use Rattle.summing.specs.Summand.{for-sum}
 
 -- an accepted record, and radii that may be added to its own
 pub record Disturbable (s : PolyZonotope) (radii : List ℕ) : Type 0 where
-  pub set : Accepted s
+  pub set : AcceptedRecord s
   pub long : length radii ≡ s .dimension
   pub small : any (ltb maxDisturbance) radii ≡ false
 

@@ -14,12 +14,12 @@ use Rattle.zonotope.specs.Valid.{passed}
 use Rattle.zonotope.specs.Answer.{orElse}
 use Rattle.answers.specs.declared.Changed.{Changed}
 use Rattle.answers.specs.Answer.{answered}
-use Rattle.answers.specs.Accepted.{Accepted}
+use Rattle.answers.specs.Accepted.{AcceptedRecord}
 
 -- two accepted records of one dimension
 pub record Summable (a b : PolyZonotope) : Type 0 where
-  pub first : Accepted a
-  pub second : Accepted b
+  pub first : AcceptedRecord a
+  pub second : AcceptedRecord b
   pub same : b .dimension ≡ a .dimension
 
 -- a next identifier that leaves room for twelve

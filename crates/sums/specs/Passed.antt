@@ -22,10 +22,10 @@ use Rattle.zonotope.specs.declared.Examined.the-variants as Accept
 use Rattle.zonotope.specs.declared.Examined.the-variants.{Refused}
 use Rattle.zonotope.specs.Record.{view, given}
 use Rattle.zonotope.specs.Shape.{Sized}
-use Rattle.zonotope.specs.Valid.{Valid, valid, passed}
+use Rattle.zonotope.specs.Valid.{Unrefused, valid, passed}
 use Rattle.zonotope.specs.Answer.{examined}
 use Rattle.answers.specs.Order.{neither}
-use Rattle.answers.specs.Accepted.{Accepted, equal}
+use Rattle.answers.specs.Accepted.{AcceptedRecord, equal}
 use Rattle.summing.specs.Disturb.{Disturbable}
 use Rattle.summing.specs.Summable.{Summable, Next}
 use Rattle.sums.specs.Causes.{beforeDisturbing, beforeReducing, beforeSumming, ofNext}
@@ -56,14 +56,14 @@ limits-in h q e =
       ltb-false maxGenerators q (or-right (ltb maxTerms h) (ltb maxGenerators q) l),
     )
 
-pub limits-accepted : (s : PolyZonotope) (h q : ℕ) → Sized s → beforeReducing h q (given s) ≡ none → Accepted s × (h ≤ 40) × (q ≤ 24)
+pub limits-accepted : (s : PolyZonotope) (h q : ℕ) → Sized s → beforeReducing h q (given s) ≡ none → AcceptedRecord s × (h ≤ 40) × (q ≤ 24)
 limits-accepted s h q z e =
     let first = neither (examine (given s)) (firstOf (ofLimits h q)) e in
     let l = limits-in h q (first .1) in
     (record { sized = z; passed = valid (given s) (first .0) }, l .0, l .1)
 
 -- ---- two sets
-pub second-in : (g h : Given) → firstOf (ofSecond g h) ≡ none → Valid h × (h .set .dimension ≡ g .set .dimension)
+pub second-in : (g h : Given) → firstOf (ofSecond g h) ≡ none → Unrefused h × (h .set .dimension ≡ g .set .dimension)
 unfolding firstOf
 second-in g h e =
     let c = passed (badCounts (h .set)) 4 e in

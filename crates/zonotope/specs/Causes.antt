@@ -8,7 +8,7 @@ use lib.IntN.{ℤ, pos}
 use Rattle.whole.specs.Tab.{tab, any}
 use Rattle.whole.specs.Tests.{some-below, each-below}
 use Rattle.model.specs.Limits.{maxDimension, maxFactors, maxTerms, maxGenerators}
-use Rattle.model.specs.Valid.{order, isLess, rises, zeros, constant}
+use Rattle.model.specs.Valid.{order, isLess, rises, zeros, factorless}
 use Rattle.arrays.specs.Rows.{row, identifierOut, exponentOut}
 use Rattle.arrays.specs.Spare.{inRows, spareℕ, spareℤ}
 
@@ -39,7 +39,7 @@ abbrev pub orderOut : List ℕ → List ℕ → List ℤ → List ℤ → ℕ �
 orderOut identifiers exponents coefficients vectors n p h q =
     not (rises ltb (tab p (λ i. getD identifiers i 0)))
     || not (rises (λ u v. isLess (order u v)) (tab h (λ t. row 12 0 exponents t p)))
-    || some-below h (λ t. constant (row 12 0 exponents t p))
+    || some-below h (λ t. factorless (row 12 0 exponents t p))
     || some-below h (λ t. zeros (row 6 (pos 0) coefficients t n))
     || some-below q (λ g. zeros (row 6 (pos 0) vectors g n))
     || not (each-below p (occursAt exponents h))

@@ -16,7 +16,7 @@ use Rattle.zonotope.specs.Causes.{countsOut}
 use Rattle.whole.specs.Tests.{or-left, or-right}
 
 -- n coordinates, p factors, h terms and q generators
-pub record Counts (n p h q : ℕ) : Type 0 where
+pub record WithinLimits (n p h q : ℕ) : Type 0 where
   pub some : 0 < n
   pub dimension : n ≤ maxDimension
   pub factors : p ≤ maxFactors
@@ -25,10 +25,10 @@ pub record Counts (n p h q : ℕ) : Type 0 where
 
 -- of a record, and of a set
 abbrev pub InLimits : PolyZonotope → Type 0
-InLimits s = Counts (s .dimension) (s .factors) (s .terms) (s .generators)
+InLimits s = WithinLimits (s .dimension) (s .factors) (s .terms) (s .generators)
 
 abbrev pub Countable : Zonotope → Type 0
-Countable m = Counts (m .dimension) (length (m .identifiers)) (length (m .terms)) (length (m .generators))
+Countable m = WithinLimits (m .dimension) (length (m .identifiers)) (length (m .terms)) (length (m .generators))
 
 -- what refusal 4 lets pass
 pub countable : (m : Zonotope) → badCounts m ≡ false → Countable m

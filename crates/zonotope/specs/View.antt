@@ -10,7 +10,7 @@ use lib.IntN.{ℤ, pos, natAbs}
 use Rattle.whole.specs.Sum.{monoidℕ, sumℕ, upto-cong}
 use Rattle.whole.specs.Tab.{tab, any, all, getD-tab, length-tab}
 use Rattle.model.specs.Set.{at, span, termSizes, generatorSizes}
-use Rattle.model.specs.Valid.{order, isLess, rises, isZero, zeros, constant, occurs, badRange, badOrder, tooWide}
+use Rattle.model.specs.Valid.{order, isLess, rises, isZero, zeros, factorless, occurs, badRange, badOrder, tooWide}
 use Rattle.model.specs.Limits.{recordIdentifiers, maxSpan}
 use Rattle.zonotope.specs.declared.PolyZonotope.{PolyZonotope}
 use Rattle.arrays.specs.Rows.{row, columnSizes, spanAt, identifierOut, sum-tab}
@@ -55,10 +55,10 @@ unfolding badOrder view
 view-order s =
     let a = not (rises ltb (tab (s .factors) (λ i. getD (s .identifiers) i 0))) in
     let b = not (rises (λ u v. isLess (order u v)) (tab (s .terms) (λ t. row 12 0 (s .exponents) t (s .factors)))) in
-    let c = some-below (s .terms) (λ t. constant (row 12 0 (s .exponents) t (s .factors))) in
+    let c = some-below (s .terms) (λ t. factorless (row 12 0 (s .exponents) t (s .factors))) in
     let d = some-below (s .terms) (λ t. zeros (row 6 (pos 0) (s .coefficients) t (s .dimension))) in
     ap₂ _||_ (ap₂ _||_ (ap₂ _||_ (ap (λ x. a || not x) (rises-of (λ u v. isLess (order u v)) (λ t. t .exponents) (s .terms) _))
-    (any-or (λ t. constant (t .exponents)) (λ t. zeros (t .coefficients)) _
+    (any-or (λ t. factorless (t .exponents)) (λ t. zeros (t .coefficients)) _
     ∙ ap₂ _||_ (any-places _ (s .terms) _) (any-places _ (s .terms) _))
     ∙ sym (or-assoc (a || b) c d))
     (any-places zeros (s .generators) _))

@@ -5,14 +5,14 @@ use mathlib.Core.Path.{_≡_, sym, _∙_}
 use mathlib.Core.Bool.{false}
 use Prim.Native.Nat.{ℕ, _-_, _≤_, _<_}
 use borrow.Author.Count.{below-more}
-use Rattle.model.specs.Valid.{constant}
+use Rattle.model.specs.Valid.{factorless}
 use Rattle.arrays.specs.Rows.{row}
 use Rattle.whole.specs.Tests.{any-found, any-none}
 use Rattle.arrays.proofs.used.constant_rows.Statement.{statement}
 use Rattle.arrays.proofs.used.constant_rows.Tie as tie
 
 abbrev Inv-loop : tie.InvT-loop
-Inv-loop e h p t₀ t = (t ≤ h) × ((k : ℕ) → k < t → constant (row 12 0 e k p) ≡ false)
+Inv-loop e h p t₀ t = (t ≤ h) × ((k : ℕ) → k < t → factorless (row 12 0 e k p) ≡ false)
 
 abbrev μ-loop : tie.MeasureT-loop
 μ-loop e h p t₀ t = h - t
