@@ -178,7 +178,21 @@ module _ (st : State) (f : List ℕ) (on : st .over ≡ false) (header : firstOf
 
   pub advanced-is : (place : ℕ) → advanced place st f ≡ kindAdvanced place st (kindOf (tag f)) (body f) (length f)
   unfolding advanced kindAdvanced taken after outcome viewed
-  advanced-is place = ?
+  advanced-is place = go (st .over) on (refusal (viewed st) f) refusal-is
+    where
+      go : (over : Bool) → over ≡ false → (o : Option ℕ) → o ≡ bodyRefusal (kindOf (tag f)) (body f) (st .next) (current (viewed st))
+          → _≡_ {A = Advanced} (record {
+            answer = answerOf (record {
+              field = st .count;
+              outcome = cond over skipped (elim o [ none ↦ meant (viewed st) f .outcome | some n ↦ refused n place ]);
+            }) (length f);
+            state = left st (cond over (viewed st) (elim o [
+              | none ↦ record { set = some (meant (viewed st) f .result); next = meant (viewed st) f .next; count = st .count + 1; over = false }
+              | some n ↦ record { set = viewed st .set; next = st .next; count = st .count; over = true }
+            ]));
+            worked = cond over false (isStep (kindOf (tag f)) && worked o);
+          }) (byCause place st (kindOf (tag f)) (body f) (length f) (bodyRefusal (kindOf (tag f)) (body f) (st .next) (current (viewed st))))
+      go over e o q = rw (e, q)
 
   -- one that is no start set finds a set
   pub set-there : starts (kindOf (tag f)) ≡ false → 0 < st .count

@@ -25,7 +25,6 @@ use Rattle.zonotope.proofs.ViewPack.{view-pack}
 use Rattle.align.specs.Examined.{radii-wide, radii-small}
 use Rattle.answers.specs.Accepted.{AcceptedRecord, own-record}
 use Rattle.zonotope.proofs.ViewPack.{view-shaped}
-use Rattle.answers.specs.Chain.{holdable}
 use Rattle.summing.specs.Summand.{for-sum}
 
 -- an accepted record, and radii that may be added to its own
@@ -110,4 +109,4 @@ module _ (s : PolyZonotope) (radii : List ℕ) (h : Disturbable s radii) where
   disturbed-limits = countable (disturb radii (view s)) disturbed-counts
 
   pub disturbed-width : tooWide (view (pack (disturb radii (view s)))) ≡ tooWide (disturb radii (view s))
-  disturbed-width = ap tooWide (view-pack (disturb radii (view s)) (holdable disturbed-shape) disturbed-counts)
+  disturbed-width = ap tooWide (view-pack (disturb radii (view s)) disturbed-shape disturbed-counts)
