@@ -27,13 +27,7 @@ pub struct Advanced {
 
 // The field with which `rest` begins, at this place of the input. The body is passed on as the part of `rest` that it fills. Of the work
 // slices only the first places are used, and only by a step that is worked out.
-pub fn advance(
-    st: State,
-    place: usize,
-    rest: &[u8],
-    w: &mut [i64],
-    e: &mut [u8],
-) -> Advanced
+pub fn advance(st: State, place: usize, rest: &[u8], w: &mut [i64], e: &mut [u8]) -> Advanced
     requires { ⌜ Running st × (workNumbers ≤ length (now w)) × (workExponents ≤ length (now e)) ⌝ }
     ensures { λ r. ⌜ r ≡ advanced place st (firstField (now (rest .entry))) ⌝ }
     ensures numbers { λ r. ⌜ Used (r .worked) (pos 0) workNumbers (now (w .entry)) (now (w .exit)) ⌝ }

@@ -9,7 +9,8 @@ use lib.ListN.{length, drop, replicate, length-drop}
 use lib.Seq.{ext-getD}
 use Rattle.whole.specs.Write.{getD-drop}
 use Rattle.raw.specs.Append.{KeptFrom}
-use Rattle.step.specs.Answer.{worked, leftIn}
+use Rattle.stepping.specs.Work.{worked}
+use Rattle.step.specs.Answer.{leftIn}
 
 module _ {A : Type 0} (d : A) (n : ℕ) (before : List A) where
   -- by whether the step was worked out

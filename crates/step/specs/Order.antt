@@ -2,7 +2,7 @@
 use mathlib.Core.Path.{_≡_, refl, sym, ap, _∙_}
 use mathlib.Core.List.{List, [], _∷_, _++_}
 use mathlib.Core.Option.{Option, none, some}
-use mathlib.Core.Bool.{Bool, true, false, not, cond, _||_, true≢false}
+use mathlib.Core.Bool.{Bool, true, false, not, cond, true≢false}
 use Prim.Native.Nat.{ℕ, _≤_}
 use borrow.Author.Tests.{ltb-false, not-true}
 use lib.Dec.{ltb, eqb}
@@ -11,9 +11,8 @@ use Rattle.model.specs.Limits.{standardWeights}
 use Rattle.model.specs.Valid.{tooWide}
 use Rattle.model.specs.Step as Step
 use Rattle.model.specs.Step.{Step}
-use Rattle.model.specs.Field.{differs}
 use Rattle.model.specs.Run.{Cause, _if_, firstOf}
-use Rattle.model.specs.Library.{Given, ofFirst, badStepCounts, badStepLengths, badStepRange, ofStep, examine, stepRefusal}
+use Rattle.model.specs.Library.{Given, ofFirst, ofStep, examine, stepRefusal}
 use Rattle.model.proofs.Tests.{and-true}
 use Rattle.zonotope.specs.declared.PolyZonotope.{PolyZonotope}
 use Rattle.zonotope.specs.declared.Examined.{Examined}
@@ -27,8 +26,9 @@ use Rattle.image.specs.StepAccepted.{StepAccepted}
 use Rattle.answers.specs.Answer.{ofResult, isRefused, none-refuses}
 use Rattle.answers.specs.Order.{in-order, neither}
 use Rattle.answers.specs.Accepted.{AcceptedRecord}
-use Rattle.stepping.specs.Work.{workNumbers, workExponents}
-use Rattle.step.specs.Answer.{noRoom, worked}
+use Rattle.stepping.specs.Arguments.{step-in}
+use Rattle.stepping.specs.Work.{workNumbers, workExponents, worked, result-worked}
+use Rattle.step.specs.Answer.{noRoom}
 
 -- the set, then the step
 abbrev pub ofSetAndStep : Step → Given → Option ℕ
@@ -87,15 +87,10 @@ module _ (short : Bool) (p : Step) (g : Given) {r : Examined} (from : r ≡ exam
           ap worked (sym joined) ∙ not-ten (ofFirst g ++ k) refl (ap (λ (o : Option ℕ). isRefused (examined o)) joined ∙ e)
 
   pub was-worked : isRefused r ≡ false → worked (stepRefusal short p g) ≡ true
-  unfolding firstOf
   was-worked e =
       let m = Step.step standardWeights p (g .set) in
       ap worked (step-order short p g ∙ ap (λ (o : Option ℕ). orElse o (ofResult m)) (none-refuses (beforeStepping short p g) from e))
-      ∙ go (tooWide m)
-    where
-      go : (b : Bool) → worked (cond b (some 10) none) ≡ true
-      go true = refl
-      go false = refl
+      ∙ result-worked m
 
 -- ---- what is left where nothing refuses
 -- room, an accepted set, an accepted step
@@ -104,14 +99,6 @@ pub record Acceptable (s : PolyZonotope) (p : Step) (numbers exponents : ℕ) : 
   pub step : StepAccepted p
   pub numbers-room : workNumbers ≤ numbers
   pub exponents-room : workExponents ≤ exponents
-
-pub step-in : (p : Step) (dimension : ℕ) → firstOf (ofStep p dimension) ≡ none → StepAccepted p
-unfolding firstOf
-step-in p dimension e =
-    let counts = passed (badStepCounts p) 4 e in
-    let lengths = passed (badStepLengths p) 3 (counts .1) in
-    let range = passed (badStepRange p) 6 (passed (differs (p .columns) dimension) 5 (lengths .1) .1) in
-    record { counts = counts .0; lengths = lengths .0; range = range .0 }
 
 -- what a step with an accepted set passed
 pub set-and-step-in : (s : PolyZonotope) (p : Step) (short : Bool) → beforeStepping short p (given s) ≡ none
