@@ -4,9 +4,12 @@ use mathlib.Core.List.{List}
 use mathlib.Core.Option.{Option, none, some}
 use mathlib.Core.Bool.{Bool, true, false, cond, _&&_}
 use Prim.Native.Nat.{ℕ, _+_}
+use lib.Dec.{eqb}
 use Rattle.model.specs.Field.{Kind, start, step, disturbance, independent, tied, reduction, check, unknown, refused, meaning}
 use Rattle.model.specs.Run as Model
 use Rattle.model.specs.Run.{tag, kindOf, current, refusal}
+use Rattle.zonotope.specs.declared.Examined.{Examined}
+use Rattle.zonotope.specs.declared.Examined.the-variants.{Accepted, Refused}
 use Rattle.raw.specs.Append.{KeptFrom}
 use Rattle.stepping.specs.Work.{worked}
 use Rattle.fields.specs.Refusal.{bodyRefusal}
@@ -43,6 +46,11 @@ advanced place st f = record {
 pub record Used {A : Type 0} (yes : Bool) (d : A) (n : ℕ) (before after : List A) : Type 0 where
   pub untouched : yes ≡ false → after ≡ before
   pub kept : KeptFrom d n before after
+
+-- whether a step with this answer was worked out
+abbrev pub workedBy : Examined → Bool
+workedBy Accepted = true
+workedBy (Refused n) = eqb n 10
 
 -- ---- by the kind and the body, where the header passed and the run isn't over
 -- what is answered and left for a refusal, if any

@@ -2,10 +2,10 @@
 use mathlib.Core.Path.{_≡_}
 use mathlib.Core.List.{List, [], _∷_}
 use mathlib.Core.Option.{none}
-use mathlib.Core.Bool.{false}
-use Prim.Native.Nat.{ℕ, _≤_}
+use mathlib.Core.Bool.{Bool, true, false, not, _||_}
+use Prim.Native.Nat.{ℕ, zero, suc, _≤_}
 use borrow.Author.Tests.{ltb-false}
-use lib.Dec.{ltb}
+use lib.Dec.{ltb, eqb}
 use Rattle.model.specs.Limits.{lastField}
 use Rattle.model.specs.Run.{Cause, _if_, firstOf, misplaced, cut}
 use Rattle.zonotope.specs.Valid.{passed}
@@ -13,6 +13,11 @@ use Rattle.zonotope.specs.Valid.{passed}
 -- too many fields: 12; the tag: 2; the end of the input: 1
 abbrev pub ofHeader : ℕ → List ℕ → List Cause
 ofHeader count f = (12 if ltb lastField count) ∷ (2 if misplaced count f) ∷ (1 if cut f) ∷ []
+
+-- whether a tag can't stand after this many fields
+abbrev pub misplacedTag : ℕ → ℕ → Bool
+misplacedTag zero t = not (eqb t 1)
+misplacedTag (suc n) t = ltb t 2 || ltb 7 t
 
 -- a header that nothing refuses
 pub header-passed : (count : ℕ) (f : List ℕ) → firstOf (ofHeader count f) ≡ none

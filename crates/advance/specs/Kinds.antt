@@ -1,5 +1,5 @@
 -- What a field answers and leaves, by what its kind makes of the body.
-use mathlib.Core.Path.{_≡_, refl, sym, _∙_, ap, subst}
+use mathlib.Core.Path.{_≡_, refl, sym, _∙_, ap, ap₂, subst}
 use mathlib.Core.List.{List, [], _∷_}
 use mathlib.Core.Option.{Option, none, some}
 use mathlib.Core.Bool.{Bool, true, false, cond, not, _&&_, _||_, true≢false}
@@ -36,7 +36,10 @@ use Rattle.answers.specs.Chain.{accepted-valid}
 use Rattle.stepping.specs.Work.{worked}
 use Rattle.fields.specs.Refusal.{bodyRefusal, resultOf}
 use Rattle.states.specs.declared.State.{State}
+use Rattle.states.specs.declared.Outcome.{Outcome}
 use Rattle.states.specs.declared.Outcome.the-variants as said
+use Rattle.verdicts.specs.declared.Verdict.{Verdict}
+use Rattle.verdicts.specs.declared.Verdict.the-variants as verdict
 use Rattle.states.specs.State.{viewed, left}
 use Rattle.states.specs.Answer.{parts, noBox, outcomeOf, boxOf, answerOf}
 use Rattle.states.specs.Taken.{taken}
@@ -61,6 +64,23 @@ refusedAs st place bytes n worked = record {
   state = record { set = st .set; next = st .next; count = st .count; over = true };
   worked = worked;
 }
+
+-- one given to a run that is over changes nothing
+abbrev pub skippedAs : State → ℕ → Advanced
+skippedAs st bytes = record { answer = parts (st .count) bytes said.Skipped noBox; state = st; worked = false }
+
+-- a verdict leaves the set
+abbrev pub checkedAs : State → ℕ → Outcome → Advanced
+checkedAs st bytes o = record {
+  answer = parts (st .count) bytes o noBox;
+  state = record { set = st .set; next = st .next; count = st .count + 1; over = false };
+  worked = false;
+}
+
+abbrev pub judgedAs : State → ℕ → ℕ → Verdict → Advanced
+judgedAs st place bytes verdict.Safe = checkedAs st bytes said.Safe
+judgedAs st place bytes verdict.Unknown = checkedAs st bytes said.Unknown
+judgedAs st place bytes (verdict.Refused n) = refusedAs st place bytes n false
 
 -- by what a call that changes a set answers
 abbrev pub concludedBy : Examined → State → ℕ → ℕ → ℕ → PolyZonotope → Bool → Advanced
@@ -93,6 +113,25 @@ answers-box tied b next s e = refl
 answers-box reduction b next s e = refl
 answers-box check b next s e = absurd (true≢false (sym e))
 answers-box unknown b next s e = absurd (true≢false (sym e))
+
+-- the independent sum alone asks for the next identifier and changes it
+pub next-open : (k : Kind) (b : List ℕ) (m n : ℕ) (s : Zonotope) → (k ≡ independent → ⊥)
+    → (bodyRefusal k b m s ≡ bodyRefusal k b n s) × (resultOf k b m s ≡ resultOf k b n s) × (meaning k b m s .next ≡ m)
+unfolding meaning
+next-open start b m n s h = (refl, refl, refl)
+next-open step b m n s h = (refl, refl, refl)
+next-open disturbance b m n s h = (refl, refl, refl)
+next-open independent b m n s h = absurd (h refl)
+next-open tied b m n s h = (refl, refl, refl)
+next-open reduction b m n s h = (refl, refl, refl)
+next-open check b m n s h = (refl, refl, refl)
+next-open unknown b m n s h = (refl, refl, refl)
+
+-- a start set asks for no set
+pub start-alone : (b : List ℕ) (n : ℕ) (s u : Zonotope)
+    → (bodyRefusal start b n s ≡ bodyRefusal start b n u) × (resultOf start b n s ≡ resultOf start b n u)
+unfolding meaning
+start-alone b n s u = (refl, refl)
 
 -- what a body that nothing refuses passed
 body-passed : (k : Kind) (b : List ℕ) (next : ℕ) (s : Zonotope) → bodyRefusal k b next s ≡ none → Passed (meaning k b next s)
@@ -166,6 +205,29 @@ module _ (st : State) (run : Running st) where
         go : (o : Option ℕ) → cause ≡ o → r ≡ answered o s (m .result) → InLimits (r .set)
         go none q p = subst (λ (x : Changed). InLimits (x .set)) (sym p) (result-means q .1)
         go (some n) q p = let z : _≡_ {A = ℕ} 0 1 = cc (sym a ∙ ap (λ (x : Changed). x .outcome) p) in absurd (omega arith)
+
+    -- the same of a call that knows neither the next identifier nor whether there was a set
+    module _ (other : k ≡ independent → ⊥) (u : Zonotope) (same : (bodyRefusal k b 0 u ≡ bodyRefusal k b 0 (current (viewed st)))
+        × (resultOf k b 0 u ≡ resultOf k b 0 (current (viewed st)))) (s : PolyZonotope) {r : Changed}
+        (from : r ≡ answered (bodyRefusal k b 0 u) s (resultOf k b 0 u)) where
+      abbrev opened : (bodyRefusal k b (st .next) (current (viewed st)) ≡ bodyRefusal k b 0 (current (viewed st)))
+          × (resultOf k b (st .next) (current (viewed st)) ≡ resultOf k b 0 (current (viewed st)))
+          × (meaning k b (st .next) (current (viewed st)) .next ≡ st .next)
+      opened = next-open k b (st .next) 0 (current (viewed st)) other
+
+      pub cause-is : bodyRefusal k b 0 u ≡ cause
+      cause-is = same .0 ∙ sym (opened .0)
+
+      answered-is : r ≡ answered cause s (m .result)
+      answered-is = from ∙ ap₂ (λ o (x : Zonotope). answered o s x) cause-is (same .1 ∙ sym (opened .1))
+
+      pub changed-limits : r .outcome ≡ Accepted → InLimits (r .set)
+      changed-limits = box-limits s answered-is
+
+      pub changed-advanced : (place bytes : ℕ) → boxes k ≡ true → {w : Bool} → w ≡ (isStep k && worked cause) → {a : Advanced}
+          → a ≡ concluded st place bytes (st .next) r w → a ≡ kindAdvanced place st k b bytes
+      changed-advanced place bytes e q p =
+          p ∙ ap₂ (λ n w. concluded st place bytes n r w) (sym (opened .2)) q ∙ box-advanced place bytes s e answered-is
 
 -- ---- a field whose header passed, in a run that isn't over
 module _ (st : State) (f : List ℕ) (on : st .over ≡ false) (header : firstOf (ofHeader (st .count) f) ≡ none) where

@@ -2,7 +2,7 @@
 ghost use mathlib.Core.Path.{_≡_};
 ghost use Prim.Native.Nat.{_≤_};
 ghost use Rattle.zonotope.specs.Counts.{InLimits};
-ghost use Rattle.advance.specs.Kinds.{acceptedAs, refusedAs, skippedAs, judgedAs, concluded};
+ghost use Rattle.advance.specs.Kinds.{acceptedAs, refusedAs, skippedAs, checkedAs, judgedAs, concluded};
 use crate::Advanced;
 use answers::Changed;
 use states::Answer;
@@ -123,5 +123,33 @@ pub fn judged(st: State, place: usize, bytes: usize, v: Verdict) -> Advanced
         Verdict::Refused(number) => refused(st, place, bytes, number, false),
         Verdict::Safe => checked(st, bytes, Outcome::Safe),
         Verdict::Unknown => checked(st, bytes, Outcome::Unknown),
+    }
+}
+
+fn checked(st: State, bytes: usize, outcome: Outcome) -> Advanced
+    requires { ⌜ st .count ≤ 4096 ⌝ }
+    ensures { λ r. ⌜ r ≡ checkedAs st bytes outcome ⌝ }
+{
+    let low = [0i64; 6];
+    let high = [0i64; 6];
+    let answer = Answer {
+        field: st.count,
+        bytes,
+        outcome,
+        sides: 0,
+        low,
+        high,
+    };
+    let set = st.set;
+    let state = State {
+        set,
+        next: st.next,
+        count: st.count + 1,
+        over: false,
+    };
+    Advanced {
+        answer,
+        state,
+        worked: false,
     }
 }

@@ -1,4 +1,4 @@
--- `refusals::reaches` meets its contract.
+-- `reaches` meets its contract.
 use borrow.Author.Needs.{needs}
 use native.Mathlib.Omega.{arith}
 use mathlib.Core.Path.{_≡_, sym, ap}
@@ -9,8 +9,8 @@ use borrow.Author.Tests.{lt-ltb, le-ltb}
 use lib.Dec.{ltb}
 use lib.ListN.{getD}
 use Rattle.whole.specs.Tests.{any-found, any-none}
-use Rattle.sums.proofs.refusals.reaches.Statement.{statement}
-use Rattle.sums.proofs.refusals.reaches.Tie as tie
+use Rattle.fresh.proofs.reaches.Statement.{statement}
+use Rattle.fresh.proofs.reaches.Tie as tie
 
 abbrev Inv-loop : tie.InvT-loop
 Inv-loop ids p next i₀ i = (i ≤ p) × ((k : ℕ) → k < i → not (ltb (getD ids k 0) next) ≡ false)
