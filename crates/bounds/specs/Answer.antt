@@ -2,7 +2,6 @@
 use mathlib.Core.Path.{_≡_}
 use mathlib.Core.List.{List}
 use mathlib.Core.Option.{Option, none, some}
-use mathlib.Core.Bool.{Bool, true, false}
 use Prim.Native.Nat.{ℕ}
 use lib.ListN.{replicate}
 use lib.IntN.{ℤ, pos}
@@ -15,9 +14,10 @@ use Rattle.zonotope.specs.declared.Examined.{Examined}
 use Rattle.zonotope.specs.declared.Examined.the-variants.{Accepted, Refused}
 use Rattle.verdicts.specs.Six.{six}
 use Rattle.verdicts.specs.Region.{halfspaces}
+use Rattle.verdicts.specs.Judged.{judged}
+use Rattle.verdicts.specs.declared.Verdict.{Verdict}
+use Rattle.verdicts.specs.declared.Verdict.the-variants as verdict
 use Rattle.bounds.specs.declared.Bounds.{Bounds}
-use Rattle.bounds.specs.declared.Verdict.{Verdict}
-use Rattle.bounds.specs.declared.Verdict.the-variants as verdict
 
 -- ---- the box
 -- the box of an accepted set; a refused one has zeros beside its number
@@ -39,12 +39,6 @@ pub box-refused : (s : Zonotope) (o : Option ℕ) (n : ℕ) {r : Examined} → o
 box-refused s o n e p = rw (p, e)
 
 -- ---- the check
--- the verdict: a refusal with its number, else whether the set is safe
-abbrev pub judged : Option ℕ → Bool → Verdict
-judged none true = verdict.Safe
-judged none false = verdict.Unknown
-judged (some n) b = verdict.Refused n
-
 -- the verdict on a given set
 unfoldable pub verdictOf : ℕ → ℕ → List ℤ → List ℤ → Given → Verdict
 verdictOf n count normals bounds g = judged (checkRefusal n count normals bounds g) (safe (halfspaces n count normals bounds) (g .set))

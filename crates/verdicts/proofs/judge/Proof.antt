@@ -15,11 +15,10 @@ use Rattle.model.specs.Limits.{maxEntry, maxBound}
 use Rattle.model.specs.Operations.{safe}
 use Rattle.whole.specs.Tab.{any}
 use Rattle.whole.specs.Tests.{or-left}
 use Rattle.verdicts.specs.Region.{halfspaces, entries-within}
-use Rattle.bounds.specs.Answer.{judged}
-use Rattle.bounds.specs.Region.{few, same-lengths}
-use Rattle.bounds.proofs.judge.Statement.{statement}
-use Rattle.bounds.proofs.judge.Tie as tie
+use Rattle.verdicts.specs.Judged.{judged, few, same-lengths}
+use Rattle.verdicts.proofs.judge.Statement.{statement}
+use Rattle.verdicts.proofs.judge.Tie as tie
 
 -- the entries' and bounds' ranges, where the test's answer is b
 out-of-range : (s : tie.After-bounds-beyond) {b : Bool} → (s .before .entries-beyond .result || s .bounds-beyond .result) ≡ b
