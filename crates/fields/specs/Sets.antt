@@ -33,7 +33,7 @@ use Rattle.summing.specs.Summable.{ofFactors, Summable}
 use Rattle.bodies.specs.Set.{setCountsOut, SetBody}
 use Rattle.bodies.specs.Given.{given-record, given-counts, file-range, pack-sized}
 use Rattle.fields.specs.Refusal.{bodyRefusal}
-use Rattle.fields.specs.Layout.{layout, laid}
+use Rattle.fields.specs.Layout.{layout, laid-out}
 
 module _ (b : List ℕ) where
   -- the body is as long as its counts say: 3, 4, 3
@@ -54,7 +54,7 @@ ofSummand n b = ofLayout b ++ ((5 if differs (dimension b) n) ∷ ofContents b)
 
 -- ---- the layout
 pub set-body : (b : List ℕ) → firstOf (ofLayout b) ≡ none → (4 ≤ length b) × SetBody b
-set-body b e = let l = laid 4 (setCountsOut b) (setLength b) (length b) e in
+set-body b e = let l = laid-out 4 (setCountsOut b) (setLength b) (length b) e in
     (l .counts-in, record { counts = l .right; long = l .whole })
 
 -- ---- the contents
