@@ -18,6 +18,10 @@ noRoom numbers exponents = ltb numbers workNumbers || ltb exponents workExponent
 abbrev pub refusalOf : List ℤ → List ℕ → Step → Given → Option ℕ
 refusalOf w e p g = stepRefusal (noRoom (length w) (length e)) p g
 
--- what a work slice holds afterwards: its first n places are d where the step was worked out; all else is as it was
+-- a work slice that is cleared where it was used: its first n places are d, and all else is as it was
+abbrev pub clearedIf : {A : Type 0} → Bool → ℕ → A → List A → List A
+clearedIf used n d xs = cond used (replicate n d ++ drop n xs) xs
+
+-- what a work slice holds afterwards: it is cleared where the step was worked out
 abbrev pub leftIn : {A : Type 0} → Option ℕ → ℕ → A → List A → List A
-leftIn o n d xs = cond (worked o) (replicate n d ++ drop n xs) xs
+leftIn o n d xs = clearedIf (worked o) n d xs
