@@ -2,7 +2,7 @@
 use mathlib.Core.Path.{_≡_, refl, sym, ap, ap₂, _∙_}
 use mathlib.Core.Bool.{Bool, true, false, cond, true≢false}
 use mathlib.Core.List.{List, [], _∷_, _++_}
-use mathlib.Core.Option.{Option, none, some}
+use mathlib.Core.Option.{Option, none, some, Option·none-ne-some}
 use Prim.Native.Nat.{ℕ, zero, suc, _+_, _*_, _≤_, _<_}
 use native.Mathlib.Decide.{decLt}
 use native.Mathlib.Omega.{arith}
@@ -12,7 +12,9 @@ use lib.ListN.{length, take, drop, length-drop, List·getD-append, drop-of-lengt
 use lib.Seq.{length-take-le, take-all, take-append-le, drop-append-le, take-nil, drop-nil}
 use Rattle.whole.specs.Tests.{or-left, or-right}
 use Rattle.model.specs.Bytes.{number}
-use Rattle.model.specs.Run.{State, begin, tag, after, answer, refusal, meant, cut, fieldLength, firstField, fields, fieldsWithin}
+use Rattle.model.specs.Run.{State, begin, tag, body, after, answer, meant, _if_, firstOf, ofBody, causes, refusal, misplaced, cut}
+use Rattle.model.specs.Run.{fieldLength, firstField, fields, fieldsWithin}
+use Rattle.model.specs.Limits.{lastField}
 use Rattle.model.specs.Text.{lineOf, closing, linesFrom, printed}
 use Rattle.model.specs.Rest.{fieldsLeft, printedFrom}
 use Rattle.model.proofs.LastLine.{over-prints-nothing}
@@ -110,7 +112,7 @@ first-left (suc n) (t ∷ l) h = split (length (t ∷ l)) t l (omega arith)
 
 -- ---- one field, and then what is left
 -- an accepted field adds one to the count
-goes-on : (st : State) (f : List ℕ) → after st f .over ≡ false → after st f .count ≡ suc (st .count)
+pub goes-on : (st : State) (f : List ℕ) → after st f .over ≡ false → after st f .count ≡ suc (st .count)
 unfolding after
 goes-on st f = go (st .over) (refusal st f) refl
   where
@@ -121,6 +123,24 @@ goes-on st f = go (st .over) (refusal st f) refl
     go true o p e = absurd (true≢false (sym p ∙ e))
     go false none p e = omega arith
     go false (some n) p e = absurd (true≢false e)
+
+-- a field without bytes is refused
+no-bytes : (st : State) → st .count ≡ 0 → refusal st [] ≡ some 1
+unfolding causes firstOf misplaced cut
+no-bytes st z =
+    ap (λ n. firstOf ((12 if ltb lastField n) ∷ (2 if misplaced n []) ∷ (1 if cut []) ∷ ofBody (meant st []) (length (body [])))) z
+
+pub empty-refused : (st : State) → st .over ≡ false → st .count ≡ 0 → after st [] .over ≡ true
+unfolding after
+empty-refused st e z = go (st .over) (refusal st []) e (no-bytes st z)
+  where
+    go : (b : Bool) (o : Option ℕ) → b ≡ false → o ≡ some 1 → cond b st (elim o [
+      | none ↦ record { set = some (meant st [] .result); next = meant st [] .next; count = st .count + 1; over = false }
+      | some n ↦ record { set = st .set; next = st .next; count = st .count; over = true }
+    ]) .over ≡ true
+    go true o p q = absurd (true≢false p)
+    go false none p q = absurd (Option·none-ne-some 1 q)
+    go false (some n) p q = refl
 
 module _ (place : ℕ) (st : State) where
   -- the line of the first field, then what is printed from there on
