@@ -2,6 +2,7 @@
 --     Marked, Listing                      document 01's marked table, its listing and some refusals
 --     Written .. Longest                   computed from bytes: all kinds in two coordinates; every limit and refusal; 4,096 fields
 --     Printed, Numerals, LastLine          the listing byte for byte; numbers as text; how an output ends
+--     Cutting                              an input cut after its first field
 --     PairTable                            each place of the pair table belongs to one pair, in row order
 --     Order, Collect, Merge                the order of terms; collecting doesn't depend on the order in which terms come
 --     FoldOrder, Select, Level, FirstBySize   folding the smallest one at a time is keeping the first by size, then by place
@@ -27,6 +28,7 @@ pub mod Longest
 pub mod Printed
 pub mod Numerals
 pub mod LastLine
+pub mod Cutting
 pub mod PairTable
 pub mod Vectors
 pub mod Order

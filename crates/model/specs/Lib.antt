@@ -8,6 +8,7 @@
 --     Field        the kinds of field: what each asks and gives
 --     Run          the state, the refusals in their order, one field, a list of fields, a whole input
 --     Text         what the program prints: numbers, lines, the output of a whole input
+--     Rest         what is still to be printed at some place of an input
 --     Library      single operations on records: their refusals in order
 --     Pairs        the order of a step's pairs
 --     Marked       the table of marked cases
@@ -25,6 +26,7 @@ pub mod Body
 pub mod Field
 pub mod Run
 pub mod Text
+pub mod Rest
 pub mod Library
 pub mod Pairs
 pub mod Marked

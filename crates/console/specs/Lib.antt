@@ -1,0 +1,3 @@
+-- What the contracts cite.
+--     Trace   what was read and written, by which calls
+pub mod Trace

@@ -1,0 +1,31 @@
+-- The histories of reading and writing. The definitions are shut: another crate's proof can't look into them, so that it holds for whatever
+-- a token may stand for, the list of all bytes included. `Law` opens them for the proofs of this crate; no other file names `Law`.
+pub mod Law
+use mathlib.Core.Path.{_≡_}
+use mathlib.Core.List.{List}
+use Prim.Native.Nat.{ℕ, _+_, _%_, _^_, _≤_}
+use lib.ListN.{length, take}
+use Rattle.console.specs.declared.Input.{Input}
+use Rattle.console.specs.declared.Output.{Output}
+use Rattle.console.specs.declared.Filled.{Filled}
+
+-- nothing was read
+pub noInput : Input
+noInput = record { seen = 0 }
+
+-- after what i stands for, these bytes were read
+pub took : Input → List ℕ → Input
+took i bytes = record { seen = (i .seen + length bytes) % 2 ^ 64 }
+
+-- nothing was written
+pub noOutput : Output
+noOutput = record { sent = 0 }
+
+-- after what o stands for, these bytes were handed over
+pub wrote : Output → List ℕ → Output
+wrote o bytes = record { sent = (o .sent + length bytes) % 2 ^ 64 }
+
+-- what a read leaves: the bytes at the start of the buffer were read next
+pub record FilledFrom (i : Input) (buffer : List ℕ) (r : Filled) : Type 0 where
+  pub within : r .count ≤ length buffer
+  pub next : r .input ≡ took i (take (r .count) buffer)

@@ -1,0 +1,26 @@
+-- What the histories are made of: cited by the proofs of this crate and by nothing else.
+use mathlib.Core.Path.{_≡_, refl, ap, _∙_}
+use mathlib.Core.List.{List}
+use Prim.Native.Nat.{ℕ, _+_, _%_, _^_, _≤_}
+use lib.ListN.{length, take}
+use Rattle.console.specs.declared.Input.{Input}
+use Rattle.console.specs.declared.Output.{Output}
+use Rattle.console.specs.Trace.{noInput, noOutput, took, wrote, FilledFrom}
+
+pub no-input : noInput ≡ record { seen = 0 }
+unfolding noInput
+no-input = refl
+
+pub no-output : noOutput ≡ record { sent = 0 }
+unfolding noOutput
+no-output = refl
+
+pub wrote-is : (o : Output) (b : List ℕ) {n : ℕ} → n ≡ (o .sent + length b) % 2 ^ 64 → record { sent = n } ≡ wrote o b
+unfolding wrote
+wrote-is o b e = ap (λ (k : ℕ). record { sent = k }) e
+
+-- n bytes at the start of a buffer
+pub filled : (i : Input) (b : List ℕ) (n : ℕ) {k : ℕ} → n ≤ length b → n ≡ length (take n b) → k ≡ (i .seen + n) % 2 ^ 64
+    → FilledFrom i b (record { count = n; input = record { seen = k } })
+unfolding took
+filled i b n h e s = record { within = h; next = ap (λ (k : ℕ). record { seen = k }) (s ∙ ap (λ m. (i .seen + m) % 2 ^ 64) e) }
