@@ -31,10 +31,11 @@ spareIn identifiers centre exponents coefficients vectors radii n p h q =
     || spareℤ vectors 144 (inRows 6 q n)
     || spareℕ radii 6 (λ i. ltb i n)
 
--- 7, second: factor j occurs in none of h terms; identifiers or terms don't rise, a term or a generator is zero, a term has no factor
+-- factor j occurs in one of h terms
 abbrev pub occursAt : List ℕ → ℕ → ℕ → Bool
 occursAt exponents h j = some-below h (λ t. ltb 0 (getD exponents (t * 12 + j) 0))
 
+-- 7, second: identifiers or terms don't rise, a term has no factor, a term or a generator is zero, or a factor has no term
 abbrev pub orderOut : List ℕ → List ℕ → List ℤ → List ℤ → ℕ → ℕ → ℕ → ℕ → Bool
 orderOut identifiers exponents coefficients vectors n p h q =
     not (rises ltb (tab p (λ i. getD identifiers i 0)))
