@@ -2,6 +2,7 @@
 //! and vectors. It is what the proved program is held against.
 
 pub mod bounds;
+pub mod command;
 pub mod field;
 pub mod finish;
 pub mod follow;
