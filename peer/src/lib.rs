@@ -3,6 +3,7 @@
 
 pub mod bounds;
 pub mod command;
+pub mod compare;
 pub mod field;
 pub mod finish;
 pub mod follow;
@@ -10,6 +11,7 @@ pub mod fraction;
 pub mod generate;
 pub mod number;
 pub mod plan;
+pub mod program;
 pub mod random;
 pub mod run;
 pub mod set;

@@ -1,18 +1,23 @@
-//! The second implementation's commands. Exit status 0 also after a run's refusal; 1 for an escape, 2 for a bad
-//! command line or a failing read or write.
+//! The second implementation's commands. Exit status 0 also after a run's refusal; 1 for an escape or a difference,
+//! 2 for a bad command line or a failing read or write.
 
 use std::process::ExitCode;
 
 use peer::command::{failure, input, output, status, Done};
+use peer::compare::{compare, Failure};
 use peer::{follow, generate, text};
 
 const MAX_MOTIONS: u64 = 65_536;
+const FILES: u64 = 2_400;
 
 const USAGE: &str = "usage:
   peer motion < run                    the lines of document 01's program
   peer sets < run                      the same with the whole set after each field
   peer follow [MOTIONS [SEED]] < run   motions sampled with exact fractions; status 1 if one escapes
   peer generate [KIND SEED] > run      a run file to try programs with; without arguments the kinds
+  peer compare PROGRAM [WORD..] [--files N] [--seed S]
+                                       a program held against this one on N generated files (2,400 if not said);
+                                       status 1, and the file, at the first difference
 ";
 
 fn main() -> ExitCode {
@@ -24,6 +29,7 @@ fn main() -> ExitCode {
         ["follow", numbers @ ..] if numbers.len() <= 2 => follow(numbers),
         ["generate"] => output(kinds().as_bytes()),
         ["generate", kind, seed] => generate(kind, seed),
+        ["compare", words @ ..] => compared(words),
         ["help" | "--help" | "-h"] => output(USAGE.as_bytes()),
         _ => Err(failure(2, USAGE)),
     })
@@ -48,6 +54,29 @@ fn generate(name: &str, seed: &str) -> Done {
     match generate::kinds().find(|kind| kind.name == name) {
         Some(kind) => output(&kind.file(seed)),
         None => Err(failure(2, &format!("no kind '{name}'; the kinds are\n{}", kinds()))),
+    }
+}
+
+fn compared(words: &[&str]) -> Done {
+    let (program, mut options) =
+        words.split_at(words.iter().position(|word| word.starts_with("--")).unwrap_or(words.len()));
+    let (mut files, mut seed) = (FILES, 1);
+    while let [name, value, rest @ ..] = options {
+        match *name {
+            "--files" => files = number(value)?,
+            "--seed" => seed = number(value)?,
+            _ => break,
+        }
+        options = rest;
+    }
+    if program.is_empty() || !options.is_empty() {
+        return Err(failure(2, USAGE));
+    }
+    let program = program.iter().map(|word| word.to_string()).collect();
+    match compare(program, files as usize, seed) {
+        Ok(tally) => output(format!("{tally}\n").as_bytes()),
+        Err(Failure::Difference(what)) => Err(failure(1, &format!("difference: {what}\n"))),
+        Err(Failure::Run(error)) => Err(failure(2, &format!("cannot run the program: {error}\n"))),
     }
 }
 

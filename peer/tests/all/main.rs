@@ -2,6 +2,7 @@
 
 mod commands;
 mod common;
+mod comparing;
 mod document01;
 mod examples;
 mod following;
