@@ -62,7 +62,7 @@ pub fn compare(words: Vec<String>, files: usize, seed: u64) -> Result<Tally, Fai
     for (kind, seed) in seeds.take(files) {
         let case = Case::new(&program, kind, seed);
         case.agrees("from a file", program.on_file(&case.bytes)?)?;
-        if tally.files % PIECES_EVERY == 0 {
+        if tally.files.is_multiple_of(PIECES_EVERY) {
             case.agrees("in pieces", program.in_pieces(&case.pieces())?)?;
             tally.in_pieces += 1;
         }
@@ -78,7 +78,7 @@ pub fn compare(words: Vec<String>, files: usize, seed: u64) -> Result<Tally, Fai
 }
 
 fn in_round(round: u64) -> impl Iterator<Item = &'static Kind> {
-    kinds().filter(move |kind| !kind.long || round % LONG_EVERY == 0)
+    kinds().filter(move |kind| !kind.long || round.is_multiple_of(LONG_EVERY))
 }
 
 /// A generated file and what the second implementation prints for it.
