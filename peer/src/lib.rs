@@ -19,4 +19,5 @@ pub mod show;
 pub mod step;
 pub mod sums;
 pub mod text;
+pub mod workload;
 pub mod zonotope;

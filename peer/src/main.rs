@@ -5,6 +5,7 @@ use std::process::ExitCode;
 
 use peer::command::{failure, input, output, status, Done};
 use peer::compare::{compare, Failure};
+use peer::workload::WORKLOADS;
 use peer::{follow, generate, text};
 
 const MAX_MOTIONS: u64 = 65_536;
@@ -15,6 +16,7 @@ const USAGE: &str = "usage:
   peer sets < run                      the same with the whole set after each field
   peer follow [MOTIONS [SEED]] < run   motions sampled with exact fractions; status 1 if one escapes
   peer generate [KIND SEED] > run      a run file to try programs with; without arguments the kinds
+  peer workload [NAME] > run           a run file to measure programs with; without argument the names
   peer compare PROGRAM [WORD..] [--files N] [--seed S]
                                        a program held against this one on N generated files (2,400 if not said);
                                        status 1, and the file, at the first difference
@@ -30,6 +32,8 @@ fn main() -> ExitCode {
         ["generate"] => output(kinds().as_bytes()),
         ["generate", kind, seed] => generate(kind, seed),
         ["compare", words @ ..] => compared(words),
+        ["workload"] => output(workloads().as_bytes()),
+        ["workload", name] => workload(name),
         ["help" | "--help" | "-h"] => output(USAGE.as_bytes()),
         _ => Err(failure(2, USAGE)),
     })
@@ -82,6 +86,17 @@ fn compared(words: &[&str]) -> Done {
 
 fn kinds() -> String {
     generate::kinds().map(|kind| format!("{:<11} {}\n", kind.name, kind.about)).collect()
+}
+
+fn workload(name: &str) -> Done {
+    match WORKLOADS.iter().find(|workload| workload.name == name) {
+        Some(workload) => output(&workload.file()),
+        None => Err(failure(2, &format!("no workload '{name}'; they are\n{}", workloads()))),
+    }
+}
+
+fn workloads() -> String {
+    WORKLOADS.iter().map(|workload| format!("{:<11} {}\n", workload.name, workload.about)).collect()
 }
 
 fn number(word: &str) -> Result<u64, ExitCode> {

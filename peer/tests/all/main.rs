@@ -10,3 +10,4 @@ mod generator;
 mod plans;
 mod readings;
 mod refusals;
+mod workloads;
