@@ -1,18 +1,11 @@
 -- One field given to a state of a run.
-<<<<<<< HEAD
---     Header    12, 2, 1: what is known before the body is read
---     Running   a state that a run can have
---     RecordRuns  the record of a sound state is one
---     Advanced  what is answered and left, and what becomes of the work slices
---     Kinds     the same, by what a field of each kind answers
-=======
 --     Header          12, 2, 1: what is known before the body is read
 --     Running         a state that a run can have
 --     Advanced        what is answered and left, and what becomes of the work slices
---     Kinds           the same, by what a field of each kind answers
+--     RecordRuns      the record of a sound state is one that a run can have
+--     Kinds           what is answered and left, by what a field of each kind answers
 --     HeaderLaws      a header's causes by the input's own bytes
 --     ConclusionLaws  the six places of an answer's ends, and what is answered by an outcome
->>>>>>> 5f33524b03e297fed699ba04a6703ff1b9053f04
 pub mod Header
 pub mod Running
 pub mod Advanced
