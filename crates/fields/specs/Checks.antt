@@ -1,5 +1,5 @@
 -- A check: its causes are those of the region that its body gives.
-use mathlib.Core.Path.{_≡_, refl, sym, ap, _∙_}
+use mathlib.Core.Path.{_≡_, sym, ap, _∙_}
 use mathlib.Core.List.{List}
 use mathlib.Core.Bool.{true, false, _||_}
 use Prim.Native.Nat.{ℕ, _*_, _<_, _≤_}
@@ -69,18 +69,19 @@ module _ (b : List ℕ) (s : Zonotope) where
         → n ≡ dimension b → count ≡ halfspaceCount b → (xs ≡ givenNormals b) × (ys ≡ givenBounds b)
         → r ≡ judged (firstOf (ofRegion n count xs ys s)) (safe (halfspaces n count xs ys) s) → r ≡ checked b s
     region-verdict e₁ e₂ read told =
+        let causes = firstOf (ofRegion (dimension b) (halfspaceCount b) (givenNormals b) (givenBounds b) s) in
         (rw (e₁, e₂, read .0, read .1) at told)
-        ∙ ap (λ hs. judged (firstOf (ofRegion (dimension b) (halfspaceCount b) (givenNormals b) (givenBounds b) s)) (safe hs s)) (given-region b)
+        ∙ ap (λ hs. judged causes (safe hs s)) (given-region b)
         ∙ ap (λ o. judged o (safe (givenHalfspaces b) s)) (sym region-order)
 
 -- ---- arrays for the normals and bounds
 module _ (b : List ℕ) (h : WholeRegion b) {n count : ℕ} (e₁ : n ≡ dimension b) (e₂ : count ≡ halfspaceCount b) where
   -- how many there are
   pub region-few : (count * n ≤ 48) × (count ≤ 8)
-  region-few = rw (e₁, e₂) (
-    few (dimension b) (halfspaceCount b) (h .counts),
-    ltb-false 8 (halfspaceCount b) (or-right (badDimension (dimension b) || eqb (halfspaceCount b) 0) (ltb 8 (halfspaceCount b)) (h .counts)),
-  )
+  region-few =
+      let k = halfspaceCount b in
+      let most = or-right (badDimension (dimension b) || eqb k 0) (ltb 8 k) (h .counts) in
+      rw (e₁, e₂) (few (dimension b) k (h .counts), ltb-false 8 k most)
 
   -- parts that have room for them
   pub region-room : RegionBody b (length (zeros (count * n) 48)) (length (zeros count 8))
