@@ -64,35 +64,30 @@ begins input = record {
   ended = λ e. absurd (true≢false (sym e));
 }
 
--- ---- a run that is over
--- whatever fields are given to it
-over-stays : (l : List (List ℕ)) {v : Model.State} → v .over ≡ true → run l v ≡ v
-unfolding run after
-over-stays [] e = refl
-over-stays (f ∷ l) {v} e = ap (run l) (ap (λ b. cond b v _) e) ∙ over-stays l e
+-- ---- a run that is over, whatever fields are given to it
+pub chosen : {A : Type 0} (b : Bool) (x y : A) → b ≡ true → cond b x y ≡ x
+chosen true x y e = refl
+chosen false x y e = absurd (true≢false (sym e))
 
-over-answer : (place : ℕ) (l : List (List ℕ)) {v : Model.State} {a : Answer} → v .over ≡ true → lastAnswer place v l a ≡ a
+over-after : (v : Model.State) (f : List ℕ) → v .over ≡ true → after v f ≡ v
+unfolding after
+over-after v f e = chosen (v .over) v _ e
+
+over-stays : (l : List (List ℕ)) (v : Model.State) → v .over ≡ true → run l v ≡ v
+unfolding run
+over-stays [] v e = refl
+over-stays (f ∷ l) v e = ap (run l) (over-after v f e) ∙ over-stays l v e
+
+pub over-answer : (place : ℕ) (l : List (List ℕ)) (v : Model.State) (a : Answer) → v .over ≡ true → lastAnswer place v l a ≡ a
 unfolding lastAnswer
-over-answer place [] e = refl
-over-answer place (f ∷ l) {v} {a} e = ap (λ b. cond b a _) e
+over-answer place [] v a e = refl
+over-answer place (f ∷ l) v a e = chosen (v .over) a _ e
 
-over-idle : (l : List (List ℕ)) {v : Model.State} → v .over ≡ true → anyWorked v l ≡ false
-unfolding anyWorked after
-over-idle [] e = refl
-over-idle (f ∷ l) {v} e =
-    ap₂ _||_ (ap (λ b. cond b false _) e) (ap (λ (x : Model.State). anyWorked x l) (ap (λ b. cond b v _) e) ∙ over-idle l e)
-
-over-run : (l k : List (List ℕ)) {v : Model.State} → v .over ≡ true → run l v ≡ run k v
-over-run l k e = over-stays l e ∙ sym (over-stays k e)
-
-over-last : (place : ℕ) (l k : List (List ℕ)) {v : Model.State} {a : Answer} → v .over ≡ true → lastAnswer place v l a ≡ lastAnswer place v k a
-over-last place l k {v} {a} e = same l ∙ sym (same k)
-  where
-    same : (l : List (List ℕ)) → lastAnswer place v l a ≡ a
-    same l = over-answer place l e
-
-over-worked : (l k : List (List ℕ)) {v : Model.State} → v .over ≡ true → anyWorked v l ≡ anyWorked v k
-over-worked l k e = over-idle l e ∙ sym (over-idle k e)
+over-idle : (l : List (List ℕ)) (v : Model.State) → v .over ≡ true → anyWorked v l ≡ false
+unfolding anyWorked
+over-idle [] v e = refl
+over-idle (f ∷ l) v e =
+    ap₂ _||_ (chosen (v .over) false _ e) (ap (λ (x : Model.State). anyWorked x l) (over-after v f e) ∙ over-idle l v e)
 
 -- ---- one turn
 module _ {input : List ℕ} {c : Course} {u : Model.State} (h : Coursing input c u) (on : c .done ≡ false) where
@@ -168,11 +163,11 @@ module _ {input : List ℕ} {c : Course} {u : Model.State} (h : Coursing input c
     record-is = refl;
     sound = after-sound (h .sound) f;
     within = next-within;
-    states = by-over (after u f .over) refl (λ l. run l (after u f)) (λ e l k. over-run l k e) states-so;
+    states = by-over (after u f .over) refl (λ l. run l (after u f)) (λ e l k. over-stays l (after u f) e ∙ sym (over-stays k (after u f) e)) states-so;
     lasts = by-over (after u f .over) refl (λ l. lastAnswer next (after u f) l (answerOf (answer (c .at) u f) (length f)))
-        (λ e l k. over-last next l k e) lasts-so;
+        (λ e l k. over-answer next l (after u f) _ e ∙ sym (over-answer next k (after u f) _ e)) lasts-so;
     works = by-over (after u f .over) refl (λ l. (c .worked || stepWorked u f) || anyWorked (after u f) l)
-        (λ e l k. ap (λ b. (c .worked || stepWorked u f) || b) (over-worked l k e)) works-so;
+        (λ e l k. ap (λ b. (c .worked || stepWorked u f) || b) (over-idle l (after u f) e ∙ sym (over-idle k (after u f) e))) works-so;
     over-done = λ e. or-left (after u f .over) (eqb next (length input)) e;
     more = λ e q. absurd (eqb-false next (length input) (or-right (after u f .over) (eqb next (length input)) e) q);
     ended = λ e q. (eqb-true next (length input) (ap (_|| eqb next (length input)) (sym q) ∙ e), omega (arith, goes-on u f q));
@@ -207,7 +202,7 @@ module _ {input : List ℕ} {c : Course} {u : Model.State} (h : Coursing input c
       left = fieldsLeft (u .count) (drop (c .at) input)
 
       go : (b : Bool) → u .over ≡ b → Idle left
-      go true e = record { state = over-stays left e; last = over-answer (c .at) left e; worked = over-idle left e }
+      go true e = record { state = over-stays left u e; last = over-answer (c .at) left u (c .last) e; worked = over-idle left u e }
       go false e =
           let q = h .ended done e in
           subst Idle (sym (none-left (u .count) input (c .at) (q .1) (q .0))) (record { state = refl; last = refl; worked = refl })

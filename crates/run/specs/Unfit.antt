@@ -30,6 +30,11 @@ unfoldable pub unfit : Bool → State → Option ℕ
 unfit short st = firstOf ((13 if short) ∷ ofState st)
 
 -- ---- the order: 13, the set, the next identifier
+-- without room nothing else is asked
+pub short-first : (st : State) {short : Bool} → short ≡ true → Refused 13 ≡ examined (unfit short st)
+unfolding unfit firstOf
+short-first st e = rw e
+
 -- before the first accepted field only the range of the next identifier is asked
 module _ (st : State) where
   pub first-out : st .count ≡ 0 → (ltb (st .next) firstFresh || ltb lastFresh (st .next)) ≡ true → Refused 11 ≡ examined (unfit false st)
