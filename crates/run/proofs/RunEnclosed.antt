@@ -129,7 +129,7 @@ all-kept p (f ∷ fs) = one-more p f fs (all-kept p fs)
 
 -- Demand 3 of a whole input.
 pub run-enclosed : RunEnclosed
-unfolding ranOf AllKept
+unfolding ranOf AllKept answerOf
 run-enclosed input p a = all-kept p (fields input) 0 0 (Motion.beginning p) [] noAnswer begin-sound (Over.enclosed (fields input) p a) (record {
   in-set = λ l. absurd (omega arith);
   in-box = λ e. let z : _≡_ {A = ℕ} 0 1 = cc in absurd (omega arith);
