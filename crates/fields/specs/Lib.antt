@@ -5,9 +5,11 @@
 --     Steps          a step: its causes in parts, and what it leaves in its work slices
 --     Disturbances   a disturbance: its causes in parts
 --     Reductions     a reduction: its causes in parts
+--     Checks         a check: its causes are those of its region
 pub mod Refusal
 pub mod Layout
 pub mod Sets
 pub mod Steps
 pub mod Disturbances
 pub mod Reductions
+pub mod Checks

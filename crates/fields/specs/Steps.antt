@@ -106,10 +106,10 @@ stepped-worked p s e = rw e (result-worked (Step.step standardWeights p (view s)
 
 -- ---- the entries in arrays
 -- the first n places of an array of N
-abbrev zeros : ℕ → ℕ → List ℤ
+abbrev pub zeros : ℕ → ℕ → List ℤ
 zeros n N = part n (replicate N (pos 0))
 
-zeros-length : (n N : ℕ) → n ≤ N → length (zeros n N) ≡ n
+pub zeros-length : (n N : ℕ) → n ≤ N → length (zeros n N) ≡ n
 zeros-length n N h = length-take-le (n - 0) (replicate N (pos 0)) (omega (arith, length-replicate {A = ℤ} N (pos 0))) ∙ omega arith
 
 -- the counts of a body that is laid out
