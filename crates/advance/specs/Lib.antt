@@ -5,9 +5,13 @@
 --     Kinds           the same, by what a field of each kind answers
 --     HeaderLaws      a header's causes by the input's own bytes
 --     ConclusionLaws  the six places of an answer's ends, and what is answered by an outcome
+--     CallLaws        what a field of each kind answers, from what the call that reads its body ensures
+--     FieldLaws       a field by its tag, and the first field of what is left of the input
 pub mod Header
 pub mod Running
 pub mod Advanced
 pub mod Kinds
 pub mod HeaderLaws
 pub mod ConclusionLaws
+pub mod CallLaws
+pub mod FieldLaws
