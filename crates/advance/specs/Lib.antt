@@ -6,6 +6,8 @@
 --     Kinds           what is answered and left, by what a field of each kind answers
 --     HeaderLaws      a header's causes by the input's own bytes
 --     ConclusionLaws  the six places of an answer's ends, and what is answered by an outcome
+--     CallLaws        what a field of each kind answers, from what the call that reads its body ensures
+--     FieldLaws       a field by its tag, and the first field of what is left of the input
 pub mod Header
 pub mod Running
 pub mod Advanced
@@ -13,3 +15,5 @@ pub mod RecordRuns
 pub mod Kinds
 pub mod HeaderLaws
 pub mod ConclusionLaws
+pub mod CallLaws
+pub mod FieldLaws
