@@ -1,42 +1,43 @@
+-- `following::turn` meets its contract.
 use native.Mathlib.Omega.{arith}
+use lib.ListN.{length}
+use Rattle.run.specs.Turning.{from-part, few-bytes, turn-is, turn-used}
 use borrow.Author.Needs.{needs}
 use Rattle.run.proofs.following.turn.Statement.{statement}
 use Rattle.run.proofs.following.turn.Tie as tie
-use Rattle.run.proofs.following.turn.Reads as reads
-use Rattle.run.proofs.following.turn.Lts as lts
-use Rattle.advance.proofs.advance.Reads as advance-reads
 
--- src/following.rt:109:38
 sub-advance : tie.Need-sub-advance
 sub-advance c = search needs
 
--- src/following.rt:109:38
 part-advance-start : tie.Need-part-advance-start
 part-advance-start c = search needs
 
--- src/following.rt:109:38
 part-advance-end : tie.Need-part-advance-end
 part-advance-end c = search needs
 
--- src/following.rt:109:9
 advance-requires : tie.Need-advance-requires
 advance-requires c κs = search needs
 
--- src/following.rt:112:16
 add-next : tie.Need-add-next
-add-next c = ?
+add-next c =
+    let v = c .before .before .before .before .before .before in let s = v .before .before .before .before .before .before .before in
+    let few = few-bytes (s .args .c) (s .args .input .now) (from-part (s .args .c) (s .args .input .now) (v .advance .ensures .0)) (s .pre .1) in
+    omega arith
 
--- src/following.rt:101:1
 same-length : tie.Need-same-length
 same-length c = search needs
 
--- src/following.rt:101:1
 same-length-2 : tie.Need-same-length-2
 same-length-2 c = search needs
 
--- src/following.rt:101:1
 returns : tie.Need-returns
-returns c = ?
+returns c =
+    let v = c .before .before .before .before .before .before .before .before in
+    let a = v .before .before .before .before .before .before .before .args in
+    (
+      turn-is (a .c) (a .input .now) (from-part (a .c) (a .input .now) (v .advance .ensures .0)),
+      (turn-used (a .c .worked) _ (v .advance .ensures .1 .0), turn-used (a .c .worked) _ (v .advance .ensures .1 .1)),
+    )
 
 pub turn-spec : {M : Type 1} → statement M
 turn-spec =
