@@ -56,13 +56,17 @@ module _ {o : Examined} (short : Bool) (st : State) (from : o ≡ examined (unfi
       worked-by : Option ℕ → Bool
       worked-by u = elim u [ none ↦ stepWorked (viewed st) (firstField rest) | some n ↦ false ]
 
--- a call that is taken has room
+-- ---- room in the work slices
+pub has-room : (numbers exponents : ℕ) → noRoom numbers exponents ≡ false → (workNumbers ≤ numbers) × (workExponents ≤ exponents)
+has-room numbers exponents e = (
+  ltb-false numbers workNumbers (or-left (ltb numbers workNumbers) (ltb exponents workExponents) e),
+  ltb-false exponents workExponents (or-right (ltb numbers workNumbers) (ltb exponents workExponents) e),
+)
+
+-- a call that is taken has it
 pub room-left : {o : Examined} (numbers exponents : ℕ) (st : State) → o ≡ examined (unfit (noRoom numbers exponents) st) → o ≡ Accepted
     → (workNumbers ≤ numbers) × (workExponents ≤ exponents)
 unfolding unfit firstOf
 room-left numbers exponents st from e =
-    let none-short = passed (noRoom numbers exponents) 13 (accepted (unfit (noRoom numbers exponents) st) (sym from ∙ e)) .0 in
-    (
-      ltb-false numbers workNumbers (or-left (ltb numbers workNumbers) (ltb exponents workExponents) none-short),
-      ltb-false exponents workExponents (or-right (ltb numbers workNumbers) (ltb exponents workExponents) none-short),
-    )
+    has-room numbers exponents
+    (passed (noRoom numbers exponents) 13 (accepted (unfit (noRoom numbers exponents) st) (sym from ∙ e)) .0)

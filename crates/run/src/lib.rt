@@ -12,8 +12,8 @@ use states::Fielded;
 use states::State;
 use zonotope::Examined;
 
-mod following;
 mod fitness;
+mod following;
 mod taking;
 
 // Document 01's first of the next identifiers (the mark).

@@ -46,8 +46,7 @@ returns-2 : tie.Need-returns-2
 returns-2 c =
     let v = c .before .before .before in let t = v .before .before .before in let x = t .before .before in
     let a = x .before .before .before .args in
-    let r = call-taken (noRoom (length (a .w .now)) (length (a .e .now))) (a .st) (x .of-call .ensures .0) (a .place) (a .rest .now) (t .enum-told .given .1) in
-    (
+    let r = call-taken (noRoom (length (a .w .now)) (length (a .e .now))) (a .st) (x .of-call .ensures .0) (a .place) (a .rest .now) (t .enum-told .given .1) in (
       v .taken .ensures .0 ∙ r .0,
       (
         v .taken .ensures .1 .0 ∙ ap (λ (b : Bool). clearedIf b workNumbers (pos 0) (a .w .now)) (r .1),

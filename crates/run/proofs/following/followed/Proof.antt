@@ -33,8 +33,7 @@ loop-less c =
 
 loop-again : tie.Need-loop-again Inv-loop μ-loop
 loop-again c =
-    let t = c .before .before .before in let i = t .before .before .before in let l = i .before .before .loop .inv in
-    (
+    let t = c .before .before .before in let i = t .before .before .before in let l = i .before .before .loop .inv in (
       turns-again (l .0) (not-true _ (i .if1 .taken)) (t .turn .ensures .0) (t .turn .ensures .1 .0) (t .turn .ensures .1 .1),
       omega (arith, t .turn .kept, l .1),
       omega (arith, t .turn .kept, l .2),

@@ -33,8 +33,7 @@ same-length-2 c = search needs
 returns : tie.Need-returns
 returns c =
     let v = c .before .before .before .before .before .before .before .before in
-    let a = v .before .before .before .before .before .before .before .args in
-    (
+    let a = v .before .before .before .before .before .before .before .args in (
       turn-is (a .c) (a .input .now) (from-part (a .c) (a .input .now) (v .advance .ensures .0)),
       (turn-used (a .c .worked) _ (v .advance .ensures .1 .0), turn-used (a .c .worked) _ (v .advance .ensures .1 .1)),
     )
