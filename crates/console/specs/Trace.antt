@@ -13,9 +13,9 @@ use Rattle.console.specs.declared.Filled.{Filled}
 pub noInput : Input
 noInput = record { seen = 0 }
 
--- after what i stands for, these bytes were read
-pub took : Input → List ℕ → Input
-took i bytes = record { seen = (i .seen + length bytes) % 2 ^ 64 }
+-- after what i stands for, at most so many bytes were asked for, and these were read
+pub took : Input → ℕ → List ℕ → Input
+took i asked bytes = record { seen = (i .seen + length bytes) % 2 ^ 64 }
 
 -- nothing was written
 pub noOutput : Output
@@ -25,7 +25,7 @@ noOutput = record { sent = 0 }
 pub wrote : Output → List ℕ → Output
 wrote o bytes = record { sent = (o .sent + length bytes) % 2 ^ 64 }
 
--- what a read leaves: the bytes at the start of the buffer were read next
+-- what a read leaves: as many bytes as the buffer has were asked for, and those at its start read
 pub record FilledFrom (i : Input) (buffer : List ℕ) (r : Filled) : Type 0 where
   pub within : r .count ≤ length buffer
-  pub next : r .input ≡ took i (take (r .count) buffer)
+  pub next : r .input ≡ took i (length buffer) (take (r .count) buffer)
