@@ -2,11 +2,11 @@
 use mathlib.Core.Path.{_≡_, refl, sym, ap, ap₂, _∙_, subst}
 use mathlib.Core.List.{List, [], _∷_, _++_, append-nil}
 use mathlib.Core.Bool.{Bool, true, false, not, cond, _&&_, _||_, true≢false}
-use Prim.Native.Nat.{ℕ, suc, _+_, _-_, _<_}
+use Prim.Native.Nat.{ℕ, suc, _+_, _-_, _≤_, _<_}
 use native.Mathlib.Omega.{arith}
 use borrow.Author.Tests.{eqb-true, eqb-false, eq-eqb, ne-eqb, not-true, not-false}
 use lib.Dec.{eqb}
-use lib.ListN.{length, drop, length-append}
+use lib.ListN.{length, drop, length-append, length-take}
 use lib.Seq.{take-nil}
 use Rattle.model.specs.Run as Model
 use Rattle.model.specs.Run.{tag, cut, after, answer, fieldLength, firstField}
@@ -19,10 +19,10 @@ use Rattle.model.proofs.Cutting.{whole-header, some-bytes, first-kept, rest-kep
 use Rattle.states.specs.State.{viewed, left}
 use Rattle.states.specs.Taken.{taken}
 use Rattle.printing.specs.Brief.{sound-line}
-use Rattle.feed.specs.declared.Progress.{Progress}
-use Rattle.feed.specs.Fed.{Turns, closed, fieldTaken, between, turned}
-use Rattle.feed.specs.Reached.{Reached, remaining, turnsLeft}
-use Rattle.feed.proofs.Left.{viewed-left, left-packed}
+use Rattle.feeding.specs.declared.Progress.{Progress}
+use Rattle.feeding.specs.Fed.{Turns, closed, fieldTaken, between, turned}
+use Rattle.feeding.specs.Reached.{Reached, remaining, turnsLeft}
+use Rattle.feeding.proofs.Left.{viewed-left, left-packed}
 
 -- a field that isn't whole is taken only after the end
 by-end : (ended cut : Bool) → ended || not cut ≡ true → cut ≡ true → ended ≡ true
@@ -192,3 +192,21 @@ turned-goes-on p r on ended rest more last h = go (cut rest) refl
 -- ---- every turn but the last uses a byte or more
 pub turned-uses : (p : Progress) (rest : List ℕ) → 0 < length rest → 0 < turned p rest .used
 turned-uses p rest h = subst (λ (t : Turns). 0 < t .used) (sym (turned-field p rest h)) (some-bytes rest h)
+
+-- ---- what a turn uses
+by-turn : (P : Turns → Type 0) (p : Progress) (rest : List ℕ) → P (closed p) → P (fieldTaken p (firstField rest)) → P (turned p rest)
+unfolding turned
+by-turn P p rest c t = go (between p rest)
+  where
+    go : (b : Bool) → P (cond b (closed p) (fieldTaken p (firstField rest)))
+    go true = c
+    go false = t
+
+-- no more than there is
+pub turned-within : (p : Progress) (rest : List ℕ) → turned p rest .used ≤ length rest
+turned-within p rest =
+    by-turn (λ t. t .used ≤ length rest) p rest (omega arith) (omega (arith, length-take (fieldLength rest) rest))
+
+-- the next field stands after it
+pub turned-place : (p : Progress) (rest : List ℕ) → turned p rest .progress .place ≡ p .place + turned p rest .used
+turned-place p rest = by-turn (λ t. t .progress .place ≡ p .place + t .used) p rest (omega arith) refl

@@ -8,8 +8,8 @@ use lib.ListN.{length, drop}
 use Rattle.rational.specs.Sum.{All}
 use Rattle.model.specs.Text.{printed}
 use Rattle.text.specs.Lines.{longestLine}
-use Rattle.feed.specs.declared.Progress.{Progress}
-use Rattle.feed.specs.Fed.{starting, fed}
+use Rattle.feeding.specs.declared.Progress.{Progress}
+use Rattle.feeding.specs.Fed.{starting, fed}
 
 -- a call: what was read since the last one, perhaps nothing, and how long the lent slice is
 pub record Call : Type 0 where

@@ -5,20 +5,20 @@ use mathlib.Core.Bool.{Bool, true, false, not, cond, _&&_, _||_}
 use Prim.Native.Nat.{ℕ, zero, suc, _+_, _-_, _≤_, _<_}
 use native.Mathlib.Decide.{decLt}
 use native.Mathlib.Omega.{arith}
-use borrow.Author.Tests.{not-true, ltb-false}
+use borrow.Author.Tests.{not-true, ltb-false, le-ltb}
 use lib.ListN.{length, drop, length-append, length-drop}
 use lib.Seq.{drop-drop}
 use lib.Dec.{ltb}
 use Rattle.model.specs.Run.{cut}
 use Rattle.model.proofs.Tests.{and-true}
 use Rattle.text.specs.Lines.{longestLine}
-use Rattle.feed.specs.declared.Progress.{Progress}
-use Rattle.feed.specs.Fed.{Turns, noTurn, then, turned, ready, turns, fed}
-use Rattle.feed.specs.Reached.{Reached, remaining, turnsLeft}
-use Rattle.feed.proofs.Turn.{turned-reached, turned-goes-on, turned-falls, turned-last, turned-uses}
+use Rattle.feeding.specs.declared.Progress.{Progress}
+use Rattle.feeding.specs.Fed.{Turns, noTurn, then, turned, ready, turns, fed}
+use Rattle.feeding.specs.Reached.{Reached, remaining, turnsLeft}
+use Rattle.feeding.proofs.OneTurn.{turned-reached, turned-goes-on, turned-falls, turned-last, turned-uses, turned-within, turned-place}
 
 -- ---- what a turn that can be made has
-module _ (ended : Bool) (room : ℕ) (p : Progress) (rest : List ℕ) (e : ready ended room p rest ≡ true) where
+module _ (ended : Bool) (room : ℕ) (p : Progress) (rest : List ℕ) (e : ready (p .done) ended room rest ≡ true) where
   more-ready : (not (p .done) ≡ true) × (((ended || not (cut rest)) && not (ltb room longestLine)) ≡ true)
   unfolding ready
   more-ready = and-true (not (p .done)) ((ended || not (cut rest)) && not (ltb room longestLine)) e
@@ -32,16 +32,23 @@ module _ (ended : Bool) (room : ℕ) (p : Progress) (rest : List ℕ) (e : ready
   pub ready-room : longestLine ≤ room
   ready-room = ltb-false room longestLine (not-true (ltb room longestLine) (and-true (ended || not (cut rest)) _ (more-ready .1) .1))
 
+-- and what is enough for one
+pub ready-by : (ended : Bool) (room : ℕ) (p : Progress) (rest : List ℕ) → p .done ≡ false → ended || not (cut rest) ≡ true
+    → longestLine ≤ room → ready (p .done) ended room rest ≡ true
+unfolding ready
+ready-by ended room p rest d h l =
+    ap₂ (λ x y. not x && ((ended || not (cut rest)) && not y)) d (le-ltb room longestLine l) ∙ ap (_&& true) h
+
 -- by whether another turn is made
 module _ (n : ℕ) (ended : Bool) (room : ℕ) (p : Progress) (rest : List ℕ) where
   abbrev later : Turns
   later = let t = turned p rest in turns n ended (room - length (t .text)) (t .progress) (drop (t .used) rest)
 
-  pub turns-go-on : ready ended room p rest ≡ true → turns (suc n) ended room p rest ≡ then (turned p rest) later
+  pub turns-go-on : ready (p .done) ended room rest ≡ true → turns (suc n) ended room p rest ≡ then (turned p rest) later
   unfolding turns
   turns-go-on e = ap (λ b. cond b (then (turned p rest) later) (noTurn p)) e
 
-  pub turns-stop : ready ended room p rest ≡ false → turns (suc n) ended room p rest ≡ noTurn p
+  pub turns-stop : ready (p .done) ended room rest ≡ false → turns (suc n) ended room p rest ≡ noTurn p
   unfolding turns
   turns-stop e = ap (λ b. cond b (then (turned p rest) later) (noTurn p)) e
 
@@ -52,16 +59,16 @@ no-turns ended room p rest = refl
 -- a property of what turns come to, by induction
 by-turns : (ended : Bool) (P : ℕ → Progress → List ℕ → Turns → Type 0)
     → ((room : ℕ) (p : Progress) (rest : List ℕ) → P room p rest (noTurn p))
-    → ((room : ℕ) (p : Progress) (rest : List ℕ) (later : Turns) → ready ended room p rest ≡ true → Reached p
+    → ((room : ℕ) (p : Progress) (rest : List ℕ) (later : Turns) → ready (p .done) ended room rest ≡ true → Reached p
     → (let t = turned p rest in P (room - length (t .text)) (t .progress) (drop (t .used) rest) later → P room p rest (then t later)))
     → (n room : ℕ) (p : Progress) (rest : List ℕ) → Reached p → P room p rest (turns n ended room p rest)
 by-turns ended P none more = go
   where
     go : (n room : ℕ) (p : Progress) (rest : List ℕ) → Reached p → P room p rest (turns n ended room p rest)
     go zero room p rest r = subst (P room p rest) (sym (no-turns ended room p rest)) (none room p rest)
-    go (suc n) room p rest r = by-case (ready ended room p rest) refl (go n _ _ _ (turned-reached p r rest))
+    go (suc n) room p rest r = by-case (ready (p .done) ended room rest) refl (go n _ _ _ (turned-reached p r rest))
       where
-        by-case : (b : Bool) → ready ended room p rest ≡ b
+        by-case : (b : Bool) → ready (p .done) ended room rest ≡ b
             → (let t = turned p rest in P (room - length (t .text)) (t .progress) (drop (t .used) rest) (later n ended room p rest))
             → P room p rest (turns (suc n) ended room p rest)
         by-case true e h =
@@ -82,6 +89,18 @@ turns-fall n ended room p rest r =
     by-turns ended (λ room p rest t. turnsLeft (t .progress) ≤ turnsLeft p) (λ room p rest. omega arith)
     (λ room p rest later e r h. omega (arith, turned-falls p r (ready-on ended room p rest e) rest)) n room p rest r
 
+-- no more is used than there is, and the next field stands after it
+pub turns-within : (n : ℕ) (ended : Bool) (room : ℕ) (p : Progress) (rest : List ℕ) → Reached p → turns n ended room p rest .used ≤ length rest
+turns-within n ended room p rest r =
+    by-turns ended (λ room p rest t. t .used ≤ length rest) (λ room p rest. omega arith)
+    (λ room p rest later e r h. omega (arith, turned-within p rest, length-drop (turned p rest .used) rest)) n room p rest r
+
+pub turns-place : (n : ℕ) (ended : Bool) (room : ℕ) (p : Progress) (rest : List ℕ) → Reached p
+    → (let t = turns n ended room p rest in t .progress .place ≡ p .place + t .used)
+turns-place n ended room p rest r =
+    by-turns ended (λ room p rest t. t .progress .place ≡ p .place + t .used) (λ room p rest. omega arith)
+    (λ room p rest later e r h. omega (arith, turned-place p rest)) n room p rest r
+
 -- what is printed
 module _ (ended : Bool) (more : List ℕ) (last : ended ≡ true → more ≡ []) where
   pub turns-print : (n room : ℕ) (p : Progress) (rest : List ℕ) → Reached p
@@ -97,7 +116,7 @@ module _ (ended : Bool) (more : List ℕ) (last : ended ≡ true → more ≡ []
       ∙ ap (λ l. (t .text ++ later .text) ++ remaining (later .progress) (l ++ more)) (drop-drop (later .used) (t .used) rest))
 
 -- ---- they stop only where no other can be made
-done-idle : (ended : Bool) (room : ℕ) (p : Progress) (rest : List ℕ) → p .done ≡ true → ready ended room p rest ≡ false
+done-idle : (ended : Bool) (room : ℕ) (p : Progress) (rest : List ℕ) → p .done ≡ true → ready (p .done) ended room rest ≡ false
 unfolding ready
 done-idle ended room p rest d = ap (λ b. not b && ((ended || not (cut rest)) && not (ltb room longestLine))) d
 
@@ -107,25 +126,25 @@ done-turns (suc n) ended room p rest d = turns-stop n ended room p rest (done-id
 
 -- whether another can be made after these
 abbrev pub another : Bool → ℕ → List ℕ → Turns → Bool
-another ended room rest t = ready ended (room - length (t .text)) (t .progress) (drop (t .used) rest)
+another ended room rest t = ready (t .progress .done) ended (room - length (t .text)) (drop (t .used) rest)
 
-none-then : (ended : Bool) (room : ℕ) (p : Progress) (rest : List ℕ) → ready ended room p rest ≡ false
+none-then : (ended : Bool) (room : ℕ) (p : Progress) (rest : List ℕ) → ready (p .done) ended room rest ≡ false
     → another ended room rest (noTurn p) ≡ false
-none-then ended room p rest e = let z : room - 0 ≡ room = omega arith in ap (λ m. ready ended m p rest) z ∙ e
+none-then ended room p rest e = let z : room - 0 ≡ room = omega arith in ap (λ m. ready (p .done) ended m rest) z ∙ e
 
 another-then : (ended : Bool) (room : ℕ) (rest : List ℕ) (t later : Turns)
     → another ended (room - length (t .text)) (drop (t .used) rest) later ≡ another ended room rest (then t later)
 another-then ended room rest t later =
     let n : room - length (t .text) - length (later .text) ≡ room - length (t .text ++ later .text) =
     omega (arith, length-append (t .text) (later .text)) in
-    ap₂ (λ m l. ready ended m (later .progress) l) n (drop-drop (later .used) (t .used) rest)
+    ap₂ (λ m l. ready (later .progress .done) ended m l) n (drop-drop (later .used) (t .used) rest)
 
 pub turns-stops : (n : ℕ) (ended : Bool) (room : ℕ) (p : Progress) (rest : List ℕ) → Reached p → length rest < n
     → another ended room rest (turns n ended room p rest) ≡ false
 turns-stops zero ended room p rest r l = absurd (omega arith)
-turns-stops (suc n) ended room p rest r l = by-case (ready ended room p rest) refl (decLt 0 (length rest)) (turns-stops n)
+turns-stops (suc n) ended room p rest r l = by-case (ready (p .done) ended room rest) refl (decLt 0 (length rest)) (turns-stops n)
   where
-    by-case : (b : Bool) → ready ended room p rest ≡ b → Dec (0 < length rest)
+    by-case : (b : Bool) → ready (p .done) ended room rest ≡ b → Dec (0 < length rest)
         → ((ended : Bool) (room : ℕ) (p : Progress) (rest : List ℕ) → Reached p → length rest < n
         → another ended room rest (turns n ended room p rest) ≡ false)
         → another ended room rest (turns (suc n) ended room p rest) ≡ false
@@ -143,7 +162,7 @@ turns-stops (suc n) ended room p rest r l = by-case (ready ended room p rest) re
         ap (another ended room rest) (turns-go-on n ended room p rest e)
         ∙ sym (another-then ended room rest t (later n ended room p rest))
         ∙ ap (another ended (room - length (t .text)) (drop (t .used) rest)) (done-turns n ended _ _ _ given)
-        ∙ none-then ended _ _ _ (done-idle ended (room - length (t .text)) (t .progress) (drop (t .used) rest) given)
+        ∙ none-then ended (room - length (t .text)) (t .progress) (drop (t .used) rest) (done-idle ended (room - length (t .text)) (t .progress) (drop (t .used) rest) given)
 
 -- ---- all that can be made
 module _ (ended : Bool) (room : ℕ) (p : Progress) (rest : List ℕ) (r : Reached p) where
@@ -155,8 +174,21 @@ module _ (ended : Bool) (room : ℕ) (p : Progress) (rest : List ℕ) (r : Reach
   unfolding fed
   fed-stops = turns-stops (suc (length rest)) ended room p rest r (omega arith)
 
+  pub fed-within : fed ended room p rest .used ≤ length rest
+  unfolding fed
+  fed-within = turns-within (suc (length rest)) ended room p rest r
+
+  pub fed-place : (let t = fed ended room p rest in t .progress .place ≡ p .place + t .used)
+  unfolding fed
+  fed-place = turns-place (suc (length rest)) ended room p rest r
+
+  -- no more can follow
+  pub fed-no-more : turnsLeft (fed ended room p rest .progress) ≤ turnsLeft p
+  unfolding fed
+  fed-no-more = turns-fall (suc (length rest)) ended room p rest r
+
   -- where one can be made, fewer can follow
-  pub fed-falls : ready ended room p rest ≡ true → turnsLeft (fed ended room p rest .progress) < turnsLeft p
+  pub fed-falls : ready (p .done) ended room rest ≡ true → turnsLeft (fed ended room p rest .progress) < turnsLeft p
   unfolding fed
   fed-falls e =
       let t = turned p rest in

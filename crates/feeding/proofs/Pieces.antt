@@ -1,11 +1,10 @@
 -- However an input is cut into pieces, what the calls hand over is what is printed for it, and the last line comes.
 -- The statements are in specs/Pieces.antt.
-use mathlib.Core.Path.{_≡_, refl, sym, ap, ap₂, _∙_, subst}
+use mathlib.Core.Path.{_≡_, refl, sym, ap, _∙_, subst}
 use mathlib.Core.List.{List, [], _∷_, _++_, append-assoc, append-nil}
-use mathlib.Core.Bool.{Bool, true, false, not, cond, _&&_, true≢false}
+use mathlib.Core.Bool.{Bool, true, false, cond, true≢false}
 use Prim.Native.Nat.{ℕ, suc, _-_, _≤_}
 use native.Mathlib.Omega.{arith}
-use borrow.Author.Tests.{le-ltb}
 use lib.ListN.{length, drop}
 use Rattle.rational.specs.Sum as Sum
 use Rattle.rational.specs.Sum.{All}
@@ -17,11 +16,11 @@ use Rattle.model.proofs.Cutting.{from-start}
 use Rattle.text.specs.Lines.{longestLine}
 use Rattle.states.specs.State.{viewed, beginning}
 use Rattle.states.specs.Recorded.{viewed-record}
-use Rattle.feed.specs.declared.Progress.{Progress}
-use Rattle.feed.specs.Fed.{starting, Turns, ready, fed}
-use Rattle.feed.specs.Reached.{Reached, remaining, turnsLeft}
-use Rattle.feed.specs.Pieces.{Call, Standing, begun, called, calls, endCalls, joined, AsPrinted, WhateverFollows, Begins, Ends}
-use Rattle.feed.proofs.Turns.{done-fed, fed-reached, fed-falls, fed-prints}
+use Rattle.feeding.specs.declared.Progress.{Progress}
+use Rattle.feeding.specs.Fed.{starting, Turns, fed}
+use Rattle.feeding.specs.Reached.{Reached, remaining, turnsLeft}
+use Rattle.feeding.specs.Pieces.{Call, Standing, begun, called, calls, endCalls, joined, AsPrinted, WhateverFollows, Begins, Ends}
+use Rattle.feeding.proofs.Turns.{ready-by, done-fed, fed-reached, fed-falls, fed-prints}
 
 -- ---- the start
 begin-viewed : viewed beginning ≡ begin
@@ -97,10 +96,6 @@ pub begins : Begins
 begins cs more = (remaining (calls cs begun .progress) (calls cs begun .rest ++ more), from-begun cs more)
 
 -- ---- the last line comes
-able : (room : ℕ) (p : Progress) (rest : List ℕ) → p .done ≡ false → longestLine ≤ room → ready true room p rest ≡ true
-unfolding ready
-able room p rest d h = ap₂ (λ x y. not x && (true && not y)) d (le-ltb room longestLine h)
-
 -- a call after the end leaves fewer turns, or the last line was given before
 fewer : (room : ℕ) (s : Standing) → Reached (s .progress) → longestLine ≤ room → (n : ℕ) → turnsLeft (s .progress) ≤ suc n
     → turnsLeft (called true (record { piece = []; room = room }) s .progress) ≤ n
@@ -111,7 +106,7 @@ fewer room s r l n h = go (s .progress .done) refl
         subst (λ (t : Turns). turnsLeft (t .progress) ≤ n) (sym (done-fed true room (s .progress) (s .rest ++ []) d))
         (subst (λ b. cond b 0 (4098 - s .progress .state .count) ≤ n) (sym d) (omega arith))
     go false d =
-        omega (arith, fed-falls true room (s .progress) (s .rest ++ []) r (able room (s .progress) (s .rest ++ []) d l))
+        omega (arith, fed-falls true room (s .progress) (s .rest ++ []) r (ready-by true room (s .progress) (s .rest ++ []) d refl l))
 
 -- where no turn can follow, it was given
 none-left : (p : Progress) → Reached p → turnsLeft p ≤ 0 → p .done ≡ true

@@ -1,0 +1,138 @@
+-- `feeding::feed` meets its contract. The measure is the number of turns that can follow.
+use mathlib.Core.Path.{_≡_, refl, sym, ap, _∙_, subst}
+use mathlib.Core.Bool.{true}
+use Prim.Native.Nat.{_+_, _-_}
+use lib.ListN.{length, drop}
+use denote.Ref.{now}
+use borrow.Author.Needs.{needs}
+use native.Mathlib.Omega.{arith}
+use Rattle.text.specs.Lines.{longestLine}
+use Rattle.feeding.specs.Fed.{turned, ready}
+use Rattle.feeding.specs.Done.{Done}
+use Rattle.feeding.specs.Reached.{turnsLeft}
+use Rattle.feeding.proofs.Turns.{ready-on, ready-room}
+use Rattle.feeding.proofs.Underway.{Underway, from-part, ready-here, room-left, underway-begins, underway-ends, underway-goes-on, underway-falls}
+use Rattle.feeding.proofs.feed.Statement.{statement}
+use Rattle.feeding.proofs.feed.Tie as tie
+
+abbrev Inv-loop : tie.InvT-loop
+Inv-loop rest ended out₀ numbers₀ exponents₀ progress₀ used₀ written₀ out numbers exponents progress used written =
+    (length out ≡ length out₀) × (length numbers ≡ length numbers₀) × (length exponents ≡ length exponents₀)
+    × Underway ended (length out₀) progress₀ rest out₀ progress used written out
+
+abbrev μ-loop : tie.MeasureT-loop
+μ-loop rest ended out₀ numbers₀ exponents₀ progress₀ used₀ written₀ out numbers exponents progress used written =
+    turnsLeft progress
+
+-- the test of the loop
+can : (c : tie.Then1 Inv-loop μ-loop) → (let l = c .before .before .before .loop in let s = c .before .before .before .before .before .before .before in
+    ready (l .progress .done) (s .args .ended) (length (now (s .args .out)) - l .written) (drop (l .used) (now (s .args .rest))) ≡ true)
+can c =
+    let l = c .before .before .before .loop in
+    let s = c .before .before .before .before .before .before .before in
+    ready-here (l .progress .done) (s .args .ended) (now (s .args .rest)) (l .used) (l .written) (length (l .out)) (length (now (s .args .out)))
+    (c .before .is-ready .ensures) (l .inv .0) (c .if1 .taken)
+
+-- a turn
+module _ (c : tie.After-struct-known Inv-loop μ-loop) where
+  made : (let l = c .before .before .before .before .before .before .before .before .before .before .before .before .before .before .before .loop in let t = c .before .before .before .before .before .before .before .turn in
+      Done longestLine (turned (l .progress) (drop (l .used) (now (c .before .before .before .before .before .before .before .before .before .before .before .before .before .before .before .before .before .before .before .args .rest)))) (l .out) (t .last .1 .1 .0) (l .written) (t .result))
+  made = from-part (c .before .before .before .before .before .before .before .before .before .before .before .before .before .before .before .loop .progress) (now (c .before .before .before .before .before .before .before .before .before .before .before .before .before .before .before .before .before .before .before .args .rest)) (c .before .before .before .before .before .before .before .before .before .before .before .before .before .before .before .loop .used) (c .before .before .before .before .before .before .before .turn .ensures .0)
+
+  next : (let l = c .before .before .before .before .before .before .before .before .before .before .before .before .before .before .before .loop in let s = c .before .before .before .before .before .before .before .before .before .before .before .before .before .before .before .before .before .before .before in let r = c .before .before .before .before .before .before .before .turn .result in
+      Underway (s .args .ended) (length (now (s .args .out))) (s .args .p) (now (s .args .rest)) (now (s .args .out))
+      (r .progress) (l .used + r .used) (r .written) (c .before .before .before .before .before .before .before .turn .last .1 .1 .0))
+  next = underway-goes-on _ _ (c .before .before .before .before .before .before .before .before .before .before .before .before .before .before .before .before .before .before .before .args .p) _ _ (c .before .before .before .before .before .before .before .before .before .before .before .before .before .before .before .loop .inv .3) (can (c .before .before .before .before .before .before .before .before .before .before .before .before)) made (c .before .before .before .before .before .before .before .turn .ensures .1)
+
+loop-holds : tie.Need-loop-holds Inv-loop μ-loop
+loop-holds c = 
+    let s = c .before .before .before in
+    (refl, refl, refl, underway-begins _ _ (s .args .p) _ _ (s .pre .0) (s .pre .1))
+
+sub-is-ready : tie.Need-sub-is-ready Inv-loop μ-loop
+sub-is-ready c = c .loop .inv .3 .within
+
+part-is-ready-start : tie.Need-part-is-ready-start Inv-loop μ-loop
+part-is-ready-start c = omega (arith, c .loop .inv .3 .within)
+
+part-is-ready-end : tie.Need-part-is-ready-end Inv-loop μ-loop
+part-is-ready-end c = search needs
+
+sub-is-ready-2 : tie.Need-sub-is-ready-2 Inv-loop μ-loop
+sub-is-ready-2 c = omega (arith, c .before .loop .inv .0, c .before .loop .inv .3 .fits)
+
+is-ready-requires : tie.Need-is-ready-requires Inv-loop μ-loop
+is-ready-requires c κs = search needs
+
+sub-turn : tie.Need-sub-turn Inv-loop μ-loop
+sub-turn c = c .before .before .before .loop .inv .3 .within
+
+part-turn-start : tie.Need-part-turn-start Inv-loop μ-loop
+part-turn-start c = omega (arith, c .before .before .before .loop .inv .3 .within)
+
+part-turn-end : tie.Need-part-turn-end Inv-loop μ-loop
+part-turn-end c = search needs
+
+turn-requires : tie.Need-turn-requires Inv-loop μ-loop
+turn-requires c κs = 
+    let t = c .before .before .before .before in
+    let l = c .before .before .before .before .before .before .before .loop in
+    let s = c .before .before .before .before .before .before .before .before .before .before .before in
+    (l .inv .3 .reached, l .inv .3 .placed, ready-on _ _ (l .progress) _ (can t),
+    omega (arith, l .inv .0, room-left _ _ (s .args .p) _ _ (l .inv .3) (can t)),
+    omega (arith, l .inv .1, s .pre .2), omega (arith, l .inv .2, s .pre .3))
+
+add-used : tie.Need-add-used Inv-loop μ-loop
+add-used c = omega (arith, next c .within, c .before .before .before .before .before .before .before .before .before .before .before .before .before .before .before .before .before .before .before .good .1 .0)
+
+loop-less : tie.Need-loop-less Inv-loop μ-loop
+loop-less c = 
+    let s = c .before .before .before .before .before .before .before .before .before .before .before .before .before .before .before .before .before .before .before in
+    underway-falls _ _ (s .args .p) _ _ (c .before .before .before .before .before .before .before .before .before .before .before .before .before .before .before .loop .inv .3) (can (c .before .before .before .before .before .before .before .before .before .before .before .before)) (made c)
+
+loop-again : tie.Need-loop-again Inv-loop μ-loop
+loop-again c = 
+    let l = c .before .before .before .before .before .before .before .before .before .before .before .before .before .before .before .loop in
+    let k = c .before .before .before .before .before .before .before .turn .kept in
+    (k .1 .1 .0 ∙ l .inv .0, k .1 .1 .1 .1 .0 ∙ l .inv .1, k .1 .1 .1 .1 .1 .0 ∙ l .inv .2, next c)
+
+same-length : tie.Need-same-length Inv-loop μ-loop
+same-length c = c .before .before .before .loop .inv .0
+
+same-length-2 : tie.Need-same-length-2 Inv-loop μ-loop
+same-length-2 c = c .before .before .before .loop .inv .1
+
+same-length-3 : tie.Need-same-length-3 Inv-loop μ-loop
+same-length-3 c = c .before .before .before .loop .inv .2
+
+returns : tie.Need-returns Inv-loop μ-loop
+returns c = 
+    let l = c .before .before .before .loop in
+    let s = c .before .before .before .before .before .before .before in
+    let no = ready-here (l .progress .done) (s .args .ended) (now (s .args .rest)) (l .used) (l .written) (length (l .out))
+    (length (now (s .args .out))) (c .before .is-ready .ensures) (l .inv .0) (c .if1 .left) in
+    (underway-ends _ _ (s .args .p) _ _ (l .inv .3) no, l .inv .3 .placed)
+
+pub feed-spec : {M : Type 1} → statement M
+feed-spec =
+    tie.close
+    (tie.spec
+    Inv-loop
+    μ-loop
+    loop-holds
+    sub-is-ready
+    part-is-ready-start
+    part-is-ready-end
+    sub-is-ready-2
+    is-ready-requires
+    sub-turn
+    part-turn-start
+    part-turn-end
+    turn-requires
+    add-used
+    loop-less
+    loop-again
+    same-length
+    same-length-2
+    same-length-3
+    returns)

@@ -1,0 +1,58 @@
+use native.Mathlib.Omega.{arith}
+-- `feeding::take` meets its contract.
+use denote.Ref.{now}
+use Rattle.model.specs.Run.{firstField}
+use borrow.Author.Needs.{needs}
+use Rattle.feeding.proofs.First.{first-tag}
+use Rattle.feeding.proofs.Written.{running, sides-few, answer-is, state-is, place-fits, field-placed, field-done, turn-placed}
+use Rattle.feeding.proofs.take.Statement.{statement}
+use Rattle.feeding.proofs.take.Tie as tie
+
+advance-requires : tie.Need-advance-requires
+advance-requires c κs =
+    let s = c .before .before .before .before .before .before in
+    (running (s .args .p) (s .pre .0), s .pre .6, s .pre .7)
+
+tag-of-requires : tie.Need-tag-of-requires
+tag-of-requires c κs = search needs
+
+answer-line-requires : tie.Need-answer-line-requires
+answer-line-requires c κs =
+    let s = c .before .before .before .before .before .before .before .before .before .before .before .before .before .before in
+    (sides-few (s .args .p) (firstField (now (s .args .rest))) (c .before .before .before .before .before .before .before .advance .ensures .0) (s .pre .0), s .pre .5)
+
+add-t21 : tie.Need-add-t21
+add-t21 c =
+    let s = c .before .before .before .before .before .before .before .before .before .before .before .before .before .before .before .before .before .before in
+    omega (arith, s .pre .3, place-fits (s .args .p) (firstField (now (s .args .rest))) (s .pre .0) (s .pre .2) (s .pre .1) (omega (arith, s .pre .3, s .pre .4)))
+
+same-length : tie.Need-same-length
+same-length c = search needs
+
+same-length-2 : tie.Need-same-length-2
+same-length-2 c = search needs
+
+same-length-3 : tie.Need-same-length-3
+same-length-3 c = search needs
+
+returns : tie.Need-returns
+returns c =
+    let s = c .before .before .before .before .before .before .before .before .before .before .before .before .before .before .before .before .before .before in
+    let a = c .before .before .before .before .before .before .before .before .before .before .before .advance .ensures .0 in
+    let p = s .args .p in
+    let f = firstField (now (s .args .rest)) in
+    let d = field-done p f (s .pre .3) (answer-is p f a) (state-is p f a) (first-tag (now (s .args .rest)) (c .before .before .before .before .tag-of .ensures)) (c .before .before .before .answer-line .ensures) in
+    (d, turn-placed d (field-placed p f (s .pre .0) (s .pre .2) (s .pre .1) (omega (arith, s .pre .3, s .pre .4))))
+
+pub take-spec : {M : Type 1} → statement M
+take-spec =
+    tie.close
+    (tie.spec
+    advance-requires
+    tag-of-requires
+    answer-line-requires
+    add-t21
+    same-length
+    same-length-2
+    same-length-3
+    returns)

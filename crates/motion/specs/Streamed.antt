@@ -1,0 +1,57 @@
+-- What the program read and wrote, by its calls of `console`.
+use mathlib.Core.Path.{_≡_}
+use mathlib.Core.List.{List, [], _∷_, _++_}
+use mathlib.Core.Bool.{true, false}
+use Prim.Native.Nat.{ℕ, _<_}
+use Rattle.model.specs.Text.{printed}
+use Rattle.console.specs.declared.Input.{Input}
+use Rattle.console.specs.declared.Output.{Output}
+use Rattle.console.specs.Trace.{noInput, noOutput, took, wrote}
+use Rattle.motion.specs.declared.Flow.{Flow}
+
+-- a call that read: how many bytes were asked for at most, and which came
+pub record Read : Type 0 where
+  pub asked : ℕ
+  pub bytes : List ℕ
+
+-- the history of some reads
+unfoldable pub tookAll : Input → List Read → Input
+tookAll i [] = i
+tookAll i (r ∷ rs) = tookAll (took i (r .asked) (r .bytes)) rs
+
+-- all bytes that they read
+unfoldable pub bytesOf : List Read → List ℕ
+bytesOf [] = []
+bytesOf (r ∷ rs) = r .bytes ++ bytesOf rs
+
+-- the history of some writes
+unfoldable pub wroteAll : Output → List (List ℕ) → Output
+wroteAll o [] = o
+wroteAll o (w ∷ ws) = wroteAll (wrote o w) ws
+
+-- all bytes that they handed over
+unfoldable pub joined : List (List ℕ) → List ℕ
+joined [] = []
+joined (w ∷ ws) = w ++ joined ws
+
+-- the last read asked for bytes and got none
+pub record EndRead (rs : List Read) : Type 0 where
+  pub before : List Read
+  pub asked : ℕ
+  pub some : 0 < asked
+  pub last : rs ≡ before ++ (record { asked = asked; bytes = [] } ∷ [])
+
+-- The program is over.
+pub record Streamed (f : Flow) : Type 0 where
+  pub reads : List Read
+  pub writes : List (List ℕ)
+  -- these reads and these writes were made, and no other
+  pub input : f .input ≡ tookAll noInput reads
+  pub output : f .output ≡ wroteAll noOutput writes
+  -- it says that the input has ended only where a read met the end
+  pub end-read : f .ended ≡ true → EndRead reads
+  -- Where no write failed, what was written is what is printed for what was read, whatever may follow that; nothing does after the end.
+  pub all : f .failed ≡ false → (more : List ℕ) → (f .ended ≡ true → more ≡ []) → joined writes ≡ printed (bytesOf reads ++ more)
+  -- Else it is how that begins.
+  pub begins : (more : List ℕ) → (f .ended ≡ true → more ≡ [])
+      → (later : List ℕ) × (printed (bytesOf reads ++ more) ≡ joined writes ++ later)
