@@ -2,6 +2,8 @@
 //! and vectors. It is what the proved program is held against.
 
 pub mod bounds;
+pub mod command;
+pub mod compare;
 pub mod field;
 pub mod finish;
 pub mod follow;
@@ -9,6 +11,7 @@ pub mod fraction;
 pub mod generate;
 pub mod number;
 pub mod plan;
+pub mod program;
 pub mod random;
 pub mod run;
 pub mod set;
@@ -16,4 +19,5 @@ pub mod show;
 pub mod step;
 pub mod sums;
 pub mod text;
+pub mod workload;
 pub mod zonotope;

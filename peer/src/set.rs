@@ -23,7 +23,7 @@ impl Term {
     }
 }
 
-#[derive(Clone, Debug, PartialEq, Eq)]
+#[derive(Clone, Debug, Default, PartialEq, Eq)]
 pub struct Set {
     pub identifiers: Vec<i128>,
     pub centre: Vec<i128>,

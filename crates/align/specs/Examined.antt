@@ -30,12 +30,12 @@ pub record Examined (s : PolyZonotope) : Type 0 where
   pub narrow : tooWide (view s) ≡ false
 
 -- ---- counts
-pub record Counts (s : PolyZonotope) : Type 0 where
+pub record FewRows (s : PolyZonotope) : Type 0 where
   pub factors-few : s .factors ≤ 12
   pub terms-few : s .terms ≤ 40
   pub generators-few : s .generators ≤ 24
 
-pub counts : (s : PolyZonotope) → Examined s → Counts s
+pub counts : (s : PolyZonotope) → Examined s → FewRows s
 unfolding view
 counts s x =
     let c = counted (view s) (x .counts) in

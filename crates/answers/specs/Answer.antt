@@ -10,6 +10,7 @@ use Rattle.zonotope.specs.declared.PolyZonotope.{PolyZonotope}
 use Rattle.zonotope.specs.declared.Examined.{Examined}
 use Rattle.zonotope.specs.declared.Examined.the-variants.{Accepted, Refused}
 use Rattle.zonotope.specs.Record.{pack}
+use Rattle.zonotope.specs.Valid.{passed}
 use Rattle.zonotope.specs.Answer.{examined, accepted, orElse}
 use Rattle.finish.specs.declared.Finished.{Finished}
 use Rattle.answers.specs.declared.Changed.{Changed}
@@ -67,6 +68,10 @@ module _ (o p : Option ℕ) {r : Examined} (from : r ≡ examined o) where
     answer-next e h = rw (order, none-refuses o from e) h
 
 -- ---- from the result
+pub result-narrow : (m : Zonotope) → ofResult m ≡ none → tooWide m ≡ false
+unfolding firstOf
+result-narrow m e = passed (tooWide m) 10 e .0
+
 module _ (s : PolyZonotope) (m : Zonotope) where
   pub answer-wide : tooWide m ≡ true → _≡_ {A = Changed} (record { outcome = Refused 10; set = s }) (answered (ofResult m) s m)
   unfolding firstOf

@@ -25,6 +25,11 @@ exponentOut k = ltb maxExponent k
 abbrev pub columnSizes : List ℤ → ℕ → ℕ → ℕ
 columnSizes xs i rows = uptoℕ (λ t. natAbs (getD xs (t * 6 + i) (pos 0))) rows
 
+-- the span of coordinate i of a record with h terms and q generators: its centre's size, the sizes of its two columns, its radius
+abbrev pub spanAt : List ℤ → List ℤ → List ℤ → List ℕ → ℕ → ℕ → ℕ → ℕ
+spanAt centre coefficients vectors radii h q i =
+    natAbs (getD centre i (pos 0)) + columnSizes coefficients i h + columnSizes vectors i q + getD radii i 0
+
 -- ---- a sum over a table is one over its places
 module _ {M : Type 0} {z : M} {add : M → M → M} (L : Monoid M z add) where
   upto-first : (h : ℕ → M) (n : ℕ) → uptoBy z add h (suc n) ≡ add (h 0) (uptoBy z add (λ i. h (suc i)) n)

@@ -16,7 +16,7 @@ use Rattle.zonotope.specs.Record.{pack, noTerm}
 use Rattle.zonotope.specs.Counts.{countable}
 use Rattle.bodies.specs.declared.SetCounts.{SetCounts}
 use Rattle.bodies.specs.Rows.{Within, row-below}
-use Rattle.bodies.specs.Set.{countsOf, countsOut, SetBody, InLimits, Laid, setOf}
+use Rattle.bodies.specs.Set.{countsOf, countsOut, SetBody, InLimits, SetLaid, setOf}
 use Rattle.bodies.specs.Set.{centreFrom, termsFrom, termBytes, generatorsFrom, radiiFrom}
 
 -- ---- counts in limits
@@ -24,7 +24,7 @@ pub in-limits : (k : SetCounts) → countsOut k ≡ false → InLimits k
 unfolding badCounts
 in-limits k e = simp length-tab at (countable (setOf [] k) (simp length-tab e))
 
-pub laid : (b : List ℕ) → SetBody b → Laid (countsOf b) (length b)
+pub laid : (b : List ℕ) → SetBody b → SetLaid (countsOf b) (length b)
 laid b h = record { counts = in-limits (countsOf b) (h .counts); long = h .long }
 
 -- ---- positions
@@ -39,7 +39,7 @@ generators-small k l =
       mul-le-mul {n₁ = k .generators} {m₁ = 4 * k .dimension} {n₂ = 24} {m₂ = 24} (l .generators) (omega (arith, l .dimension)),
     )
 
-module _ (k : SetCounts) (body : ℕ) (h : Laid k body) where
+module _ (k : SetCounts) (body : ℕ) (h : SetLaid k body) where
   pub exponents-within : Within body (termsFrom k) (termBytes k) (k .factors) (k .terms)
   exponents-within = record { row = λ t l. omega (arith, row-below (termBytes k) t (k .terms) l, h .long) }
 
@@ -58,6 +58,16 @@ part-of g (suc n) f d zero = refl
 part-of g (suc n) f d (suc i) = part-of g n (λ t. f (suc t)) d i
 
 module _ (b : List ℕ) (k : SetCounts) where
+  -- the rows of the body, by their positions
+  abbrev exponentRows : List (List ℕ)
+  exponentRows = tab (k .terms) (λ t. tab (k .factors) (λ j. byte b (termsFrom k + t * termBytes k + j)))
+
+  abbrev coefficientRows : List (List ℤ)
+  coefficientRows = tab (k .terms) (λ t. words b (termsFrom k + k .factors + t * termBytes k) (k .dimension))
+
+  abbrev generatorRows : List (List ℤ)
+  generatorRows = tab (k .generators) (λ g. words b (generatorsFrom k + g * (4 * k .dimension)) (k .dimension))
+
   abbrev termOf : ℕ → Term
   termOf t = record {
     exponents = tab (k .factors) (λ j. byte b (termsFrom k + t * termBytes k + j));
@@ -68,12 +78,9 @@ module _ (b : List ℕ) (k : SetCounts) where
   pub packed : {ids : List ℕ} {c : List ℤ} {e : List ℕ} {g v : List ℤ} {r : List ℕ}
       → ids ≡ tab 12 (λ i. getD (tab (k .factors) (λ j. number 4 b (4 + 4 * j))) i 0)
       → c ≡ tab 6 (at (words b (centreFrom k) (k .dimension)))
-      → e ≡ tab 480 (λ x. getD (getD (tab (k .terms) (λ t. tab (k .factors) (λ j. byte b (termsFrom k + t * termBytes k + j)))) (x / 12) [])
-      (x % 12) 0)
-      → g ≡ tab 240 (λ x. at (getD (tab (k .terms) (λ t. words b (termsFrom k + k .factors + t * termBytes k) (k .dimension))) (x / 6) [])
-      (x % 6))
-      → v ≡ tab 144 (λ x. at (getD (tab (k .generators) (λ t. words b (generatorsFrom k + t * (4 * k .dimension)) (k .dimension))) (x / 6) [])
-      (x % 6))
+      → e ≡ tab 480 (λ x. getD (getD exponentRows (x / 12) []) (x % 12) 0)
+      → g ≡ tab 240 (λ x. at (getD coefficientRows (x / 6) []) (x % 6))
+      → v ≡ tab 144 (λ x. at (getD generatorRows (x / 6) []) (x % 6))
       → r ≡ tab 6 (λ j. getD (map natAbs (words b (radiiFrom k) (k .dimension))) j 0)
       → _≡_ {A = PolyZonotope} (record {
         dimension = k .dimension;

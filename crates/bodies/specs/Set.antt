@@ -12,7 +12,7 @@ use Rattle.model.specs.Set.{Zonotope}
 use Rattle.model.specs.Bytes.{byte, number, words}
 use Rattle.model.specs.Body.{dimension, factors, termCount, generatorCount, setLength, givenSet}
 use Rattle.model.specs.Field.{badDimension}
-use Rattle.zonotope.specs.Counts.{Counts}
+use Rattle.zonotope.specs.Counts.{WithinLimits}
 use Rattle.bodies.specs.declared.SetCounts.{SetCounts}
 
 -- the counts of a body
@@ -35,7 +35,7 @@ pub record SetBody (b : List ℕ) : Type 0 where
 -- ---- by the counts
 module _ (k : SetCounts) where
   abbrev pub InLimits : Type 0
-  InLimits = Counts (k .dimension) (k .factors) (k .terms) (k .generators)
+  InLimits = WithinLimits (k .dimension) (k .factors) (k .terms) (k .generators)
 
   -- where the centre, the terms, the generators and the radii stand, and how many bytes a term has
   abbrev pub centreFrom : ℕ
@@ -54,7 +54,7 @@ module _ (k : SetCounts) where
   radiiFrom = generatorsFrom + k .generators * (4 * k .dimension)
 
   -- a body of this length has these counts
-  pub record Laid (body : ℕ) : Type 0 where
+  pub record SetLaid (body : ℕ) : Type 0 where
     pub counts : InLimits
     pub long : body ≡ radiiFrom + 4 * k .dimension
 

@@ -9,13 +9,13 @@ ghost use Rattle.model.specs.Set.{at};
 ghost use Rattle.model.specs.Bytes.{byte, number, words};
 ghost use Rattle.zonotope.specs.Record.{pack};
 ghost use Rattle.bodies.specs.Rows.{Within};
-ghost use Rattle.bodies.specs.Set.{Laid, setOf};
+ghost use Rattle.bodies.specs.Set.{SetLaid, setOf};
 use crate::tables;
 use zonotope::PolyZonotope;
 
 // The record of the set of a body with counts k.
 pub fn filled(b: &[u8], k: super::SetCounts) -> PolyZonotope
-    requires { ⌜ Laid k (length (now b)) ⌝ }
+    requires { ⌜ SetLaid k (length (now b)) ⌝ }
     ensures { λ r. ⌜ r ≡ pack (setOf (now (b .entry)) k) ⌝ }
 {
     let n = k.dimension;

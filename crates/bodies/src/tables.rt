@@ -2,7 +2,8 @@
 ghost use mathlib.Core.Path.{_≡_};
 ghost use Prim.Native.Nat.{_+_, _*_, _≤_};
 ghost use lib.ListN.{length};
-ghost use Rattle.model.specs.Bytes.{byte, word};
+ghost use Rattle.whole.specs.Write.{write};
+ghost use Rattle.model.specs.Bytes.{byte, word, long};
 ghost use Rattle.bodies.specs.Rows.{writeRows, Within};
 
 // Rows of n bytes.
@@ -38,5 +39,15 @@ pub fn put_word_rows(
 {
     for t in 0..rows {
         words::put_words(b, i + t * stride, out, t * width, n);
+    }
+}
+
+// A number of 8 bytes for each row.
+pub fn put_longs(b: &[u8], i: usize, stride: usize, out: &mut [i64], rows: usize)
+    requires { ⌜ Within (length (now b)) i stride 8 rows × (rows ≤ length (now out)) ⌝ }
+    ensures { λ _. ⌜ now (out .exit) ≡ write (now (out .entry)) 0 (λ t. long (now (b .entry)) (i + t * stride)) rows ⌝ }
+{
+    for t in 0..rows {
+        out[t] = words::long_at(b, i + t * stride);
     }
 }

@@ -1,26 +1,23 @@
 -- The answers of the box and of the check: document 01's number and values for each of their cases.
 use mathlib.Core.Path.{_≡_}
-use mathlib.Core.List.{List, [], _∷_}
+use mathlib.Core.List.{List}
 use mathlib.Core.Option.{Option, none, some}
-use mathlib.Core.Bool.{Bool, true, false, _||_}
-use Prim.Native.Nat.{ℕ, _+_, _*_}
-use lib.Dec.{ltb, eqb}
-use lib.ListN.{length, replicate}
+use Prim.Native.Nat.{ℕ}
+use lib.ListN.{replicate}
 use lib.IntN.{ℤ, pos}
-use Rattle.whole.specs.Tab.{tab, any}
-use Rattle.model.specs.Limits.{maxHalfspaces, maxEntry, maxBound}
-use Rattle.model.specs.Field.{badDimension, beyond, differs}
-use Rattle.model.specs.Run.{Cause, _if_, firstOf}
-use Rattle.model.specs.Set.{Zonotope, at}
-use Rattle.model.specs.Operations.{low, high, Halfspace, safe}
-use Rattle.model.specs.Library.{Given, ofFirst, examine, checkRefusal}
+use Rattle.model.specs.Run.{firstOf}
+use Rattle.model.specs.Set.{Zonotope}
+use Rattle.model.specs.Operations.{low, high, safe}
+use Rattle.model.specs.Library.{Given, ofFirst, ofRegion, examine, checkRefusal}
 use Rattle.zonotope.specs.Answer.{examined, orElse, first-append}
 use Rattle.zonotope.specs.declared.Examined.{Examined}
 use Rattle.zonotope.specs.declared.Examined.the-variants.{Accepted, Refused}
-use Rattle.bounds.specs.Six.{six}
+use Rattle.verdicts.specs.Six.{six}
+use Rattle.verdicts.specs.Region.{halfspaces}
+use Rattle.verdicts.specs.Judged.{judged}
+use Rattle.verdicts.specs.declared.Verdict.{Verdict}
+use Rattle.verdicts.specs.declared.Verdict.the-variants as verdict
 use Rattle.bounds.specs.declared.Bounds.{Bounds}
-use Rattle.bounds.specs.declared.Verdict.{Verdict}
-use Rattle.bounds.specs.declared.Verdict.the-variants as verdict
 
 -- ---- the box
 -- the box of an accepted set; a refused one has zeros beside its number
@@ -42,25 +39,6 @@ pub box-refused : (s : Zonotope) (o : Option ℕ) (n : ℕ) {r : Examined} → o
 box-refused s o n e p = rw (p, e)
 
 -- ---- the check
--- the halfspaces that two slices give: normal k is the entries k·n .. k·n + n - 1
-abbrev pub halfspaces : ℕ → ℕ → List ℤ → List ℤ → List Halfspace
-halfspaces n count normals bounds = tab count (λ k. record { normal = tab n (λ j. at normals (k * n + j)); bound = at bounds k })
-
--- the causes that a region adds to those of the set
-abbrev pub ofRegion : ℕ → ℕ → List ℤ → List ℤ → Zonotope → List Cause
-ofRegion n count normals bounds s =
-    (4 if badDimension n || eqb count 0 || ltb maxHalfspaces count)
-    ∷ (3 if differs (length normals) (count * n) || differs (length bounds) count)
-    ∷ (5 if differs n (s .dimension))
-    ∷ (6 if any (beyond maxEntry) normals || any (beyond maxBound) bounds)
-    ∷ []
-
--- the verdict: a refusal with its number, else whether the set is safe
-abbrev pub judged : Option ℕ → Bool → Verdict
-judged none true = verdict.Safe
-judged none false = verdict.Unknown
-judged (some n) b = verdict.Refused n
-
 -- the verdict on a given set
 unfoldable pub verdictOf : ℕ → ℕ → List ℤ → List ℤ → Given → Verdict
 verdictOf n count normals bounds g = judged (checkRefusal n count normals bounds g) (safe (halfspaces n count normals bounds) (g .set))

@@ -1,41 +1,16 @@
 // The box around a set, and the check of a set against an unsafe region.
 ghost use mathlib.Core.Path.{_≡_};
-ghost use Prim.Native.Nat.{_≤_, _<_};
-ghost use lib.IntN.{natAbs, _*ℤ_};
-ghost use Rattle.model.specs.Operations.{lowAlong, safe};
-ghost use Rattle.model.specs.Run.{firstOf};
-ghost use Rattle.zonotope.specs.Record.{view, given};
-ghost use Rattle.zonotope.specs.Counts.{InLimits};
-ghost use Rattle.bounds.specs.Box.{axis};
-ghost use Rattle.bounds.specs.Six.{six};
-ghost use Rattle.bounds.specs.Answer.{boundsOf, halfspaces, ofRegion, judged, verdictOf};
-
-mod along;
-mod region;
-
+ghost use Rattle.zonotope.specs.Record.{given};
+ghost use Rattle.bounds.specs.Answer.{boundsOf, verdictOf};
+use verdicts::Verdict;
 use zonotope::Examined;
-use zonotope::MAX_DIMENSION;
 use zonotope::PolyZonotope;
-
-// Document 01's limits: of a region's halfspaces, of the size of a normal's entry and of a bound.
-const MAX_HALFSPACES: usize = 8;
-
-const MAX_ENTRY: u64 = 32768;
-
-const MAX_BOUND: u64 = 1099511627776;
 
 // The box, or the refusal of the set. A box has the ends of each coordinate in its first places; every other place is 0.
 pub struct Bounds {
     pub outcome: Examined,
     pub low: [i64; 6],
     pub high: [i64; 6],
-}
-
-// What a check says: the set avoids the region, it isn't known to, or the call is refused with document 01's number.
-pub enum Verdict {
-    Safe,
-    Unknown,
-    Refused(u8),
 }
 
 // The box around the set's points.
@@ -50,8 +25,9 @@ pub fn box_of(s: PolyZonotope) -> Bounds
             Bounds { outcome, low, high }
         }
         Examined::Accepted => {
-            let low = ends(s, 1);
-            let high = ends(s, -1);
+            let ends = verdicts::ends_of(s);
+            let low = ends.low;
+            let high = ends.high;
             Bounds { outcome, low, high }
         }
     }
@@ -65,56 +41,6 @@ pub fn check(s: PolyZonotope, n: usize, count: usize, normals: &[i32], bounds: &
     let examined = zonotope::examine(s);
     match examined {
         Examined::Refused(number) => Verdict::Refused(number),
-        Examined::Accepted => judge(s, n, count, normals, bounds),
+        Examined::Accepted => verdicts::judge(s, n, count, normals, bounds),
     }
-}
-
-// The ends of all coordinates: the low ones for c = 1, the high ones for c = -1.
-fn ends(s: PolyZonotope, c: i32) -> [i64; 6]
-    requires { ⌜ InLimits s × (natAbs c ≤ 1) ⌝ }
-    ensures { λ r. ⌜ r ≡ six (s .dimension) (λ i. c *ℤ lowAlong (axis i c) (view s)) ⌝ }
-{
-    let n = s.dimension;
-    let mut out = [0i64; 6];
-    for i in 0..n {
-        out[i] = end(s, i, c);
-    }
-    out
-}
-
-// c times the lower end along c times axis i.
-fn end(s: PolyZonotope, i: usize, c: i32) -> i64
-    requires { ⌜ InLimits s × (i < 6) × (natAbs c ≤ 1) ⌝ }
-    ensures { λ r. ⌜ r ≡ c *ℤ lowAlong (axis i c) (view s) ⌝ }
-{
-    let mut a = [0i32; 6];
-    a[i] = c;
-    whole::multiply_add(0, whole::widen(c), along::lower_end(s, &a))
-}
-
-// The verdict on a valid set.
-fn judge(s: PolyZonotope, n: usize, count: usize, normals: &[i32], bounds: &[i64]) -> Verdict
-    requires { ⌜ InLimits s ⌝ }
-    ensures { λ r. ⌜ r ≡ judged (firstOf (ofRegion n count (now (normals .entry)) (now (bounds .entry)) (view s)))
-        (safe (halfspaces n count (now (normals .entry)) (now (bounds .entry))) (view s)) ⌝ }
-{
-    if (n == 0) | (MAX_DIMENSION < n) | (count == 0) | (MAX_HALFSPACES < count) {
-        return Verdict::Refused(4);
-    }
-    if (normals.len() != count * n) | (bounds.len() != count) {
-        return Verdict::Refused(3);
-    }
-    let dimension = s.dimension;
-    if n != dimension {
-        return Verdict::Refused(5);
-    }
-    if zonotope::arguments::entries_beyond(normals, MAX_ENTRY)
-        | region::bounds_beyond(bounds, MAX_BOUND)
-    {
-        return Verdict::Refused(6);
-    }
-    if region::any_apart(s, n, normals, bounds) {
-        return Verdict::Safe;
-    }
-    Verdict::Unknown
 }

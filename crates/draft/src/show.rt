@@ -2,7 +2,7 @@
 ghost use Prim.Native.Nat.{_+_, _≤_, _<_};
 ghost use lib.ListN.{length};
 use answers::Changed;
-use bounds::Verdict;
+use verdicts::Verdict;
 use zonotope::Examined;
 use zonotope::PolyZonotope;
 

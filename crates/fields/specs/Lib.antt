@@ -1,5 +1,15 @@
 -- A field of each kind.
---     Refusal   the number that refuses a field by its body
---     Sets      fields whose body is a set: its causes in parts
+--     Refusal        the number that refuses a field by its body
+--     Layout         a body that is as long as its counts say; a field's causes in parts
+--     Sets           fields whose body is a set: its causes in parts
+--     Steps          a step: its causes in parts, and what it leaves in its work slices
+--     Disturbances   a disturbance: its causes in parts
+--     Reductions     a reduction: its causes in parts
+--     Checks         a check: its causes are those of its region
 pub mod Refusal
+pub mod Layout
 pub mod Sets
+pub mod Steps
+pub mod Disturbances
+pub mod Reductions
+pub mod Checks

@@ -1,17 +1,12 @@
 // Fields whose body is a set: the start set and the sums.
 ghost use mathlib.Core.Path.{_≡_};
-ghost use Prim.Native.Nat.{_≤_};
-ghost use lib.Dec.{ltb};
-ghost use lib.ListN.{getD};
-ghost use Rattle.whole.specs.Tab.{tab, any};
-ghost use Rattle.model.specs.Limits.{fileIdentifiers};
 ghost use Rattle.model.specs.Body.{givenSet};
 ghost use Rattle.model.specs.Field.{start, tied, independent};
 ghost use Rattle.model.specs.Run.{noSet, firstOf};
 ghost use Rattle.zonotope.specs.Record.{view, pack};
 ghost use Rattle.zonotope.specs.Answer.{examined};
 ghost use Rattle.answers.specs.Answer.{answered};
-ghost use Rattle.answers.specs.Accepted.{Accepted};
+ghost use Rattle.answers.specs.Accepted.{AcceptedRecord};
 ghost use Rattle.summing.specs.Summable.{Next};
 ghost use Rattle.bodies.specs.Set.{SetBody};
 ghost use Rattle.fields.specs.Refusal.{bodyRefusal, resultOf};
@@ -19,9 +14,6 @@ ghost use Rattle.fields.specs.Sets.{ofLayout, ofContents, ofSummand};
 use answers::Changed;
 use zonotope::Examined;
 use zonotope::PolyZonotope;
-
-// The largest identifier in a file.
-const FILE_IDENTIFIERS: u32 = 65535;
 
 // A start set: the set itself, or a refusal with the record of no set.
 pub fn start(body: &[u8]) -> Changed
@@ -37,7 +29,7 @@ pub fn start(body: &[u8]) -> Changed
 
 // A tied sum with the body's set.
 pub fn tied(first: PolyZonotope, body: &[u8]) -> Changed
-    requires { ⌜ Accepted first ⌝ }
+    requires { ⌜ AcceptedRecord first ⌝ }
     ensures { λ r. ⌜ r ≡ answered (bodyRefusal tied (now (body .entry)) 0 (view first)) first
         (resultOf tied (now (body .entry)) 0 (view first)) ⌝ }
 {
@@ -55,7 +47,7 @@ pub fn tied(first: PolyZonotope, body: &[u8]) -> Changed
 
 // An independent sum with the body's set, whose factors are numbered from `next` on.
 pub fn independent(first: PolyZonotope, next: u32, body: &[u8]) -> Changed
-    requires { ⌜ Accepted first × Next next ⌝ }
+    requires { ⌜ AcceptedRecord first × Next next ⌝ }
     ensures { λ r. ⌜ r ≡ answered (bodyRefusal independent (now (body .entry)) next (view first)) first
         (resultOf independent (now (body .entry)) next (view first)) ⌝ }
 {
@@ -128,22 +120,8 @@ fn of_contents(s: PolyZonotope, body: &[u8]) -> Examined
     requires { ⌜ SetBody (now body) × (s ≡ pack (givenSet (now body))) ⌝ }
     ensures { λ r. ⌜ r ≡ examined (firstOf (ofContents (now (body .entry)))) ⌝ }
 {
-    let p = s.factors;
-    if any_beyond(&s.identifiers, p) | bodies::negative_radius(body) {
+    if bodies::large_identifier(body) | bodies::negative_radius(body) {
         return Examined::Refused(6);
     }
     zonotope::examine(s)
-}
-
-// Whether one of the first p identifiers is none of a file.
-fn any_beyond(ids: &[u32; 12], p: usize) -> bool
-    requires { ⌜ p ≤ 12 ⌝ }
-    ensures { λ r. ⌜ r ≡ any (ltb fileIdentifiers) (tab p (λ i. getD (now (ids .entry)) i 0)) ⌝ }
-{
-    for i in 0..p {
-        if FILE_IDENTIFIERS < ids[i] {
-            return true;
-        }
-    }
-    false
 }

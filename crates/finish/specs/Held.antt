@@ -73,7 +73,7 @@ pub record Foldable (u : Unfinished) (g : List ℤ) (m termLimit generatorLimit 
   pub generator-limit : generatorLimit ≤ 24
 
 -- of what is left
-pub record Sized (k : Reduced) (s g : List ℤ) : Type 0 where
+pub record RowsLong (k : Reduced) (s g : List ℤ) : Type 0 where
   pub terms-few : k .terms ≤ 40
   pub terms-long : k .terms * 6 ≤ length s
   pub terms-small : Small (2 ^ 50) s
@@ -86,7 +86,7 @@ pub record Sized (k : Reduced) (s g : List ℤ) : Type 0 where
 -- ---- what is left is the set m
 pub record Holds (u : Unfinished) (k : Reduced) (e heads : List ℕ) (s g : List ℤ) (m : Zonotope) : Type 0 where
   pub is : heldBy u k e heads s g ≡ m
-  pub sized : Sized k s g
+  pub sized : RowsLong k s g
   pub places-long : k .terms ≤ length heads
   pub rows : Places e heads
 

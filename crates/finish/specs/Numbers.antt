@@ -14,7 +14,7 @@ use Rattle.model.specs.Limits.{maxSpan}
 use Rattle.model.specs.Set.{at}
 use Rattle.rows.specs.Rows.{numberRow}
 use Rattle.finish.specs.declared.Reduced.{Reduced}
-use Rattle.finish.specs.Held.{Sized}
+use Rattle.finish.specs.Held.{RowsLong}
 use Rattle.finish.specs.Spans.{columnSize, heldSpan}
 
 -- no span exceeds the first n numbers
@@ -87,7 +87,7 @@ column-within s n h = record {
       subst (λ (y : ℕ). natAbs (at s y) ≤ maxSpan) q (omega arith);
 }
 
-pub narrowable : {k : Reduced} {s g : List ℤ} → Sized k s g → ((i : ℕ) → i < 6 → heldSpan k s g i ≤ maxSpan) → Narrowable k s g
+pub narrowable : {k : Reduced} {s g : List ℤ} → RowsLong k s g → ((i : ℕ) → i < 6 → heldSpan k s g i ≤ maxSpan) → Narrowable k s g
 narrowable {k} {s} {g} v h = record {
   terms-few = v .terms-few;
   terms-long = v .terms-long;

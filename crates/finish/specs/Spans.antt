@@ -18,7 +18,7 @@ use Rattle.rows.specs.Rows.{numberRow, termOf, terms}
 use Rattle.whole.specs.Tests.{any-found, any-none}
 use Rattle.finish.specs.declared.Unfinished.{Unfinished}
 use Rattle.finish.specs.declared.Reduced.{Reduced}
-use Rattle.finish.specs.Held.{heldBy, Sized}
+use Rattle.finish.specs.Held.{heldBy, RowsLong}
 
 -- the sizes at coordinate i of the first n rows together
 abbrev pub columnSize : List ℤ → ℕ → ℕ → ℕ
@@ -67,7 +67,7 @@ module _ (u : Unfinished) (k : Reduced) (e heads : List ℕ) (s g : List ℤ) wh
         (λ i l. ap (ltb maxSpan) (span-held i (omega arith)) ∙ le-ltb maxSpan _ (h i l))
 
 -- ---- a coordinate's parts fit 64 bits together
-pub span-fits : {k : Reduced} {s g : List ℤ} → Sized k s g → (i a b : ℕ) → a ≤ k .terms * 2 ^ 50 → b ≤ k .generators * 2 ^ 50
+pub span-fits : {k : Reduced} {s g : List ℤ} → RowsLong k s g → (i a b : ℕ) → a ≤ k .terms * 2 ^ 50 → b ≤ k .generators * 2 ^ 50
     → natAbs (at (k .centre) i) + a + b + getD (k .radii) i 0 < 2 ^ 63
 span-fits v i a b p q =
     let few = v .terms-few in

@@ -6,7 +6,7 @@ use Prim.Native.Nat.{ℕ, _≤_}
 use lib.ListN.{length}
 use lib.IntN.{ℤ}
 use Rattle.model.specs.Set.{Term, Zonotope}
-use Rattle.model.specs.Finish.{Core, foldAll, foldTerm, high, keepAt, core, withTerms, withGenerators, collectTerms, dropZeroTerms}
+use Rattle.model.specs.Finish.{Core, foldAll, foldTerm, tooHigh, keepAt, core, withTerms, withGenerators, collectTerms, dropZeroTerms}
 use Rattle.model.specs.Finish.{dropZeroGenerators, foldHigh, foldTerms, foldGenerators, dropUnused, finish}
 use Rattle.model.proofs.Lists.{sublist-all}
 use Rattle.model.proofs.Selected.{those-sublist}
@@ -72,7 +72,7 @@ module _ (s : Zonotope) (n : Narrow s) where
       let rows = n .shaped .rows in
       ap₂ withWideTerms
       (ap (λ (l : List Term). foldAll foldTerm l (wideCore (core s))) (high-terms-wide (n .factors) (n .coordinates) rows)
-      ∙ fold-terms-wide (n .factors) (n .coordinates) (sublist-all (those-sublist high (s .terms)) rows) (core s))
+      ∙ fold-terms-wide (n .factors) (n .coordinates) (sublist-all (those-sublist tooHigh (s .terms)) rows) (core s))
       (low-terms-wide (n .factors) (n .coordinates) rows)
 
   pub foldTerms-wide : (weights : List ℕ) (limit : ℕ) → foldTerms weights limit (wide s) ≡ wide (foldTerms weights limit s)

@@ -18,7 +18,7 @@ use Rattle.model.specs.Limits.{maxExponent}
 use Rattle.model.specs.Set.{Term, longer}
 use Rattle.model.specs.Valid.{isZero, zeros, occurs}
 use Rattle.model.specs.Finish.{Core, those, allEven, shift, growth, foldVector}
-use Rattle.model.specs.Finish.{foldTerm, foldGenerator, foldAll, high, size, foldUntil, keepExponents}
+use Rattle.model.specs.Finish.{foldTerm, foldGenerator, foldAll, tooHigh, size, foldUntil, keepExponents}
 use Rattle.model.proofs.Shape.{Row}
 use Rattle.model.proofs.Tests.{false-any}
 use Rattle.finish.specs.Wide.{padded, wideVector, wideTerm, wideCoefficients, wideCore, wideFolded}
@@ -65,7 +65,7 @@ module _ {p n : ℕ} (factors : p ≤ 12) (coordinates : n ≤ 6) where
   short : (t : Term) → Row p n t → length (t .coefficients) ≤ 6
   short t r = omega arith
 
-  pub high-wide : (t : Term) → Row p n t → high (wideTerm t) ≡ high t
+  pub high-wide : (t : Term) → Row p n t → tooHigh (wideTerm t) ≡ tooHigh t
   high-wide t r = padded-any 0 (λ e. ltb maxExponent e) refl 12 (t .exponents) (few t r)
 
   pub even-wide : (t : Term) → Row p n t → allEven (padded 12 0 (t .exponents)) ≡ allEven (t .exponents)
@@ -87,11 +87,11 @@ module _ {p n : ℕ} (factors : p ≤ 12) (coordinates : n ≤ 6) where
   nonzero-generators-wide long = those-mapped wideVector _ _ (All-imp (λ g e. ap not (zeros-wide g (omega arith))) long)
 
   -- ---- 3. terms with an exponent that is too large, those without, and folding
-  pub high-terms-wide : {ts : List Term} → All (Row p n) ts → those high (map wideTerm ts) ≡ map wideTerm (those high ts)
-  high-terms-wide rows = those-mapped wideTerm high high (All-imp high-wide rows)
+  pub high-terms-wide : {ts : List Term} → All (Row p n) ts → those tooHigh (map wideTerm ts) ≡ map wideTerm (those tooHigh ts)
+  high-terms-wide rows = those-mapped wideTerm tooHigh tooHigh (All-imp high-wide rows)
 
   pub low-terms-wide : {ts : List Term} → All (Row p n) ts
-      → those (λ t. not (high t)) (map wideTerm ts) ≡ map wideTerm (those (λ t. not (high t)) ts)
+      → those (λ t. not (tooHigh t)) (map wideTerm ts) ≡ map wideTerm (those (λ t. not (tooHigh t)) ts)
   low-terms-wide rows = those-mapped wideTerm _ _ (All-imp (λ t r. ap not (high-wide t r)) rows)
 
   pub fold-terms-wide : {ts : List Term} → All (Row p n) ts → (k : Core)

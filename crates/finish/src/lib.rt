@@ -4,6 +4,7 @@ ghost use Prim.Native.Nat.{_*_, _^_, _≤_};
 ghost use lib.ListN.{length};
 ghost use Rattle.whole.specs.Tab.{tab};
 ghost use Rattle.model.specs.Finish.{finish, foldHigh, foldTerms, foldGenerators};
+ghost use Rattle.rows.specs.WorkSpace.{LeftOpen};
 ghost use Rattle.rows.specs.Rows.{numberRow, terms, rowsOf, Small};
 ghost use Rattle.fold.specs.Folding.{coreOf};
 ghost use Rattle.select.specs.Stage.{Ready};
@@ -38,7 +39,7 @@ pub struct Finished {
 }
 
 // The result with the first places.len() rows of e and c as its terms and the first rows of g as its generators, finished. `places`,
-// `heads` and s are work space.
+// `heads` and s are work space, and g is worked in too.
 pub fn finish(
     u: Unfinished,
     e: &[u8],
@@ -56,6 +57,10 @@ pub fn finish(
         × Widened (held u (now e) (now c) (length (now places)) (now g) generators) ⌝ }
     ensures { λ r. ⌜ r ≡ finishedAs (finish weights «term_limit» «generator_limit»
         (held u (now (e .entry)) (now (c .entry)) (length (now (places .entry))) (now (g .entry)) generators)) ⌝ }
+    ensures places { λ _. ⌜ LeftOpen (now (places .entry)) (now (places .exit)) ⌝ }
+    ensures heads { λ _. ⌜ LeftOpen (now (heads .entry)) (now (heads .exit)) ⌝ }
+    ensures rows { λ _. ⌜ LeftOpen (now (s .entry)) (now (s .exit)) ⌝ }
+    ensures generators { λ _. ⌜ LeftOpen (now (g .entry)) (now (g .exit)) ⌝ }
 {
     let k = reduce(
         u,
@@ -113,15 +118,18 @@ fn reduce(
     )
 }
 
-// The rows of e and c as terms: sorted, equal ones added, all-zero ones dropped. The answer is how many there are.
+// The rows of e and c as terms: sorted, equal ones added, all-zero ones dropped. Rows that are all zero from the start are left out before
+// the sort. The answer is how many terms there are.
 fn gather(e: &[u8], c: &[i64], places: &mut [u16], heads: &mut [u16], s: &mut [i64]) -> usize
     requires { ⌜ (length (now places) ≤ 860) × (length (now places) * 12 ≤ length (now e)) × (length (now e) ≤ 10320)
-        × (length (now places) * 6 ≤ length (now c)) × (length (now places) * 6 ≤ length (now s)) × (length (now heads) ≡ length (now places))
-        × Small (2 ^ 40) (now c) × Small (2 ^ 40) (now s) ⌝ }
+        × (length (now places) * 6 ≤ length (now c)) × (length (now places) * 6 ≤ length (now s))
+        × (length (now heads) ≡ length (now places)) × Small (2 ^ 40) (now c) × Small (2 ^ 40) (now s) ⌝ }
     ensures { λ r. ⌜ Gathered (now (e .entry)) (now (heads .exit)) (now (s .exit)) r
         (nonzero (rowsOf (now (e .entry)) (now (c .entry)) (length (now (places .entry))))) ⌝ }
 {
-    let n = collect::collect(e, c, places, heads, s);
+    let m = collect::nonzero_places(c, places);
+    collect::first_places(heads);
+    let n = collect::collect(e, c, &mut places[..m], &mut heads[..m], s);
     rows::drop_zero(heads, s, n)
 }
 

@@ -5,7 +5,7 @@ ghost use Prim.Native.Nat.{ℕ, _*_, _^_, _≤_, _<_};
 ghost use lib.ListN.{length};
 ghost use Rattle.model.specs.Valid.{tooWide};
 ghost use Rattle.rows.specs.Rows.{Small};
-ghost use Rattle.finish.specs.Held.{heldBy, Sized};
+ghost use Rattle.finish.specs.Held.{heldBy, RowsLong};
 ghost use Rattle.finish.specs.Spans.{columnSize, heldSpan};
 
 // The largest span of a coordinate.
@@ -13,7 +13,7 @@ const SPAN_LIMIT: u64 = 1048576;
 
 // Whether the span of one of the set's coordinates is too wide.
 pub fn too_wide(u: super::Unfinished, k: super::Reduced, s: &[i64], g: &[i64]) -> bool
-    requires { ⌜ (u .dimension ≤ 6) × Sized k (now s) (now g) ⌝ }
+    requires { ⌜ (u .dimension ≤ 6) × RowsLong k (now s) (now g) ⌝ }
     ensures { λ r. ⌜ ((e heads : List ℕ) → r ≡ tooWide (heldBy u k e heads (now (s .entry)) (now (g .entry)))) ⌝ }
 {
     let n = u.dimension;
@@ -27,7 +27,7 @@ pub fn too_wide(u: super::Unfinished, k: super::Reduced, s: &[i64], g: &[i64]) -
 
 // The span of coordinate i.
 fn span_at(k: super::Reduced, s: &[i64], g: &[i64], i: usize) -> u64
-    requires { ⌜ (i < 6) × Sized k (now s) (now g) ⌝ }
+    requires { ⌜ (i < 6) × RowsLong k (now s) (now g) ⌝ }
     ensures { λ r. ⌜ r ≡ heldSpan k (now (s .entry)) (now (g .entry)) i ⌝ }
 {
     let centre = k.centre;

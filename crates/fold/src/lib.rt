@@ -2,18 +2,16 @@
 // fold some rows and keep the others.
 ghost use mathlib.Core.Path.{_≡_};
 ghost use mathlib.Core.List.{List, map};
-ghost use mathlib.Core.Bool.{false};
 ghost use Prim.Native.Nat.{ℕ, _+_, _*_, _^_, _≤_, _<_};
-ghost use lib.ListN.{length, getD};
-ghost use lib.IntN.{pos, natAbs};
+ghost use lib.ListN.{length, getD, drop};
+ghost use lib.IntN.{natAbs};
 ghost use Rattle.model.specs.Limits.{maxExponent};
 ghost use Rattle.model.specs.Set.{plusℤ, plusℕ};
 ghost use Rattle.model.specs.Finish.{allEven, shift, growth, size};
-ghost use Rattle.rational.specs.Power.{even};
 ghost use Rattle.whole.specs.Tab.{tab, any};
 ghost use lib.Dec.{ltb};
+ghost use Rattle.rows.specs.WorkSpace.{LeftOpen};
 ghost use Rattle.rows.specs.Rows.{exponentRow, numberRow, Places, Small};
-ghost use Rattle.whole.specs.Write.{write};
 ghost use Rattle.fold.specs.Chosen.{chosen};
 ghost use Rattle.fold.specs.Marks.{unmarked};
 ghost use Rattle.fold.specs.Folding.{Under, Folding};
@@ -62,6 +60,7 @@ pub fn keep_rows(s: &mut [i64], n: usize, gone: &[bool; 860]) -> usize
     ensures { λ r. ⌜ (r ≤ n)
         × (tab r (numberRow (now (s .exit))) ≡ map (numberRow (now (s .entry))) (chosen (unmarked (now (gone .entry))) n))
         × ((b : ℕ) → Small b (now (s .entry)) → Small b (now (s .exit))) ⌝ }
+    ensures later_rows { λ r. ⌜ LeftOpen (drop (r * 6) (now (s .entry))) (drop (r * 6) (now (s .exit))) ⌝ }
 {
     let mut m = 0;
     let mut k = 0;
@@ -69,7 +68,7 @@ pub fn keep_rows(s: &mut [i64], n: usize, gone: &[bool; 860]) -> usize
         if gone[k] {
             k += 1;
         } else {
-            move_row(s, m, k);
+            rows::move_row(s, m, k);
             m += 1;
             k += 1;
         }
@@ -83,6 +82,7 @@ pub fn keep_places(heads: &mut [u16], n: usize, gone: &[bool; 860]) -> usize
     ensures { λ r. ⌜ (r ≤ n)
         × (tab r (λ k. getD (now (heads .exit)) k 0) ≡ map (λ k. getD (now (heads .entry)) k 0) (chosen (unmarked (now (gone .entry))) n))
         × ((e : List ℕ) → Places e (now (heads .entry)) → Places e (now (heads .exit))) ⌝ }
+    ensures later_places { λ r. ⌜ LeftOpen (drop r (now (heads .entry))) (drop r (now (heads .exit))) ⌝ }
 {
     let mut m = 0;
     let mut k = 0;
@@ -104,12 +104,7 @@ pub fn all_even(e: &[u8], x: usize) -> bool
     requires { ⌜ x * 12 + 12 ≤ length (now e) ⌝ }
     ensures { λ r. ⌜ r ≡ allEven (exponentRow (now (e .entry)) x) ⌝ }
 {
-    for k in 0..12 {
-        if !is_even(e[x * 12 + k]) {
-            return false;
-        }
-    }
-    true
+    rows::clear_of(e, x, 1)
 }
 
 // Whether an exponent of row x is too large.
@@ -117,12 +112,7 @@ pub fn is_high(e: &[u8], x: usize) -> bool
     requires { ⌜ x * 12 + 12 ≤ length (now e) ⌝ }
     ensures { λ r. ⌜ r ≡ any (λ k. ltb maxExponent k) (exponentRow (now (e .entry)) x) ⌝ }
 {
-    for k in 0..12 {
-        if e[x * 12 + k] > 63 {
-            return true;
-        }
-    }
-    false
+    !rows::clear_of(e, x, 192)
 }
 
 // The size of row k: the sum of weight times |number|.
@@ -166,13 +156,6 @@ pub fn grown(radii: [u64; 6], s: &[i64], k: usize, even: bool) -> [u64; 6]
     out
 }
 
-// Whether a number is even.
-fn is_even(x: u8) -> bool
-    ensures { λ r. ⌜ r ≡ even x ⌝ }
-{
-    x % 2 == 0
-}
-
 // One more weighed number in a size.
 fn add_weighed(sum: u64, weight: u64, g: i64) -> u64
     requires { ⌜ (sum ≤ 2 ^ 63) × (weight ≤ 1000) × (natAbs g ≤ 2 ^ 50) ⌝ }
@@ -196,16 +179,5 @@ fn growth_by(even: bool, g: i64) -> u64
         whole::half_size_up(g)
     } else {
         whole::size(g)
-    }
-}
-
-// Row `from` of s goes to row `to`, at or before it.
-fn move_row(s: &mut [i64], to: usize, from: usize)
-    requires { ⌜ (to ≤ from) × (from * 6 + 6 ≤ length (now s)) ⌝ }
-    ensures { λ _. ⌜ now (s .exit) ≡ write (now (s .entry)) (to * 6) (λ j. getD (now (s .entry)) (from * 6 + j) (pos 0)) 6 ⌝ }
-{
-    for j in 0..6 {
-        let x = s[from * 6 + j];
-        s[to * 6 + j] = x;
     }
 }

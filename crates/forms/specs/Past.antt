@@ -11,10 +11,10 @@ use Rattle.whole.specs.Sum.{monoidℕ, monoidℤ}
 use Rattle.model.specs.Set.{Zonotope, at, radius}
 use Rattle.model.specs.Step.{Step, linearAt, quadraticAt, dot, bilinear, rawCentre, rawLinear, rawSquare, rawPair, slope, remainder}
 use Rattle.forms.specs.Dot.{Vector, upto-zero, dot-zero, dot-comm}
-use Rattle.forms.specs.Wide.{Shaped}
+use Rattle.forms.specs.Wide.{StepShaped}
 use Rattle.forms.specs.Same.{both-zero, nothing, cross}
 
-module _ (p : Step) (shaped : Shaped p) (i : ℕ) (past : p .rows ≤ i) where
+module _ (p : Step) (shaped : StepShaped p) (i : ℕ) (past : p .rows ≤ i) where
   abbrev width : ℕ
   width = p .columns
 

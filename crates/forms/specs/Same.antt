@@ -12,7 +12,7 @@ use Rattle.whole.specs.Tab.{getD-tab}
 use Rattle.model.specs.Set.{Zonotope, at, radius, termSizes, generatorSizes}
 use Rattle.model.specs.Step.{Step, linearAt, quadraticAt, dot, bilinear, rawCentre, rawLinear, rawSquare, rawPair, slope, remainder}
 use Rattle.forms.specs.Dot.{Vector, upto-short, upto-zero, dot-short, dot-zero, dot-comm}
-use Rattle.forms.specs.Wide.{entry, formEntry, wideConstant, wideLinear, wideQuadratic, wide, Shaped}
+use Rattle.forms.specs.Wide.{entry, formEntry, wideConstant, wideLinear, wideQuadratic, wide, StepShaped}
 use Rattle.forms.specs.Wide.{entry-is, entry-past, form-entry-is, form-entry-past}
 
 -- ---- products with 0
@@ -29,7 +29,7 @@ cross z j l =
     + (generatorSizes z j + radius z j) * termSizes z l
     + (generatorSizes z j + radius z j) * (generatorSizes z l + radius z l)
 
-module _ (p : Step) (shaped : Shaped p) where
+module _ (p : Step) (shaped : StepShaped p) where
   wide-constant : (i : ℕ) → i < 6 → at (wide p .constant) i ≡ at (p .constant) i
   unfolding wideConstant
   wide-constant i h = getD-tab 6 (at (p .constant)) (pos 0) i h

@@ -44,7 +44,7 @@ wide p = record {
 }
 
 -- the counts are in limits, and the lists as long as the counts say
-pub record Shaped (p : Step) : Type 0 where
+pub record StepShaped (p : Step) : Type 0 where
   pub rows : p .rows ≤ 6
   pub columns : p .columns ≤ 6
   pub constants : length (p .constant) ≡ p .rows

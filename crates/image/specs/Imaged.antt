@@ -15,10 +15,10 @@ use Rattle.zonotope.specs.Record.{view}
 use Rattle.zonotope.specs.declared.PolyZonotope.{PolyZonotope}
 use Rattle.forms.specs.Tables.{tab-small}
 use Rattle.forms.specs.Numbers.{six, roundLimit}
-use Rattle.forms.specs.Wide.{wide, Shaped}
-use Rattle.raw.specs.Accepted.{Accepted}
+use Rattle.forms.specs.Wide.{wide, StepShaped}
+use Rattle.raw.specs.Accepted.{InSpan}
 use Rattle.raw.specs.Unused.{generatorAt, counts-in, same-row}
-use Rattle.raw.specs.Append.{wideTerm, Bounded, Kept, kept-after}
+use Rattle.raw.specs.Append.{wideTerm, Bounded, KeptFrom, kept-after}
 use Rattle.raw.specs.Terms.{RawTerms}
 use Rattle.image.specs.Rounding.{inexactOf, roundTerm, round-small, rounded-rows, rounded-small, bounded-mono}
 use Rattle.image.specs.Remainder.{Below, roundedUp, imageLimit}
@@ -39,8 +39,8 @@ pub record Imaged (p : Step) (s : PolyZonotope) (e₀ : List ℕ) (w₀ : List �
   pub small-centre : Small imageLimit (r .centre)
   pub small-generators : Small imageLimit (r .generators)
   pub small-radii : Below imageLimit (r .radii)
-  pub later-exponents : Kept 0 (r .rows * 12) e₀ e
-  pub later-numbers : Kept (pos 0) (r .rows * 6) w₀ w
+  pub later-exponents : KeptFrom 0 (r .rows * 12) e₀ e
+  pub later-numbers : KeptFrom (pos 0) (r .rows * 6) w₀ w
 
 -- there are as many generators as the record has
 images-length : (p : Step) (s : PolyZonotope) → length (raw p (view s) .generators) ≡ s .generators
@@ -58,7 +58,7 @@ rounded-all-small N v w h e =
     rw e (tab-small imageLimit N (λ x. round (at v x)) (λ x l. omega (arith, round-small (at v x) (h .small x))))
 
 -- ---- the stages, on six coordinates
-module _ (c a q : List ℤ) (s : PolyZonotope) (ok : Accepted s) (e₀ e : List ℕ) (w₀ w w′ : List ℤ) (r : ℕ)
+module _ (c a q : List ℤ) (s : PolyZonotope) (ok : InSpan s) (e₀ e : List ℕ) (w₀ w w′ : List ℤ) (r : ℕ)
     (raw-terms : RawTerms a q s e₀ w₀ r e w) (long : r * 6 ≤ length w) (rounded-terms : w′ ≡ write w 0 (λ x. round (at w x)) (r * 6))
     (centre centre′ : List ℤ) (raw-centre : RawCentre c a q s centre)
     (rounded-centre : centre′ ≡ write centre 0 (λ x. round (at centre x)) 6)
@@ -127,7 +127,7 @@ module _ (c a q : List ℤ) (s : PolyZonotope) (ok : Accepted s) (e₀ e : List 
   }
 
 -- ---- on the step's own coordinates
-module _ (p : Step) (shaped : Shaped p) (s : PolyZonotope) (ok : Accepted s) where
+module _ (p : Step) (shaped : StepShaped p) (s : PolyZonotope) (ok : InSpan s) where
   abbrev y : Zonotope
   y = raw (wide p) (view s)
 

@@ -8,14 +8,14 @@ use lib.ListN.{getD}
 use Rattle.whole.specs.Tab.{tab, tab-cong, getD-tab}
 use Rattle.model.specs.Set.{Term, Zonotope, at, radius}
 use Rattle.model.specs.Step.{Step, own, squared, paired, pairs, raw, rawCentre, rawLinear, rawSquare, rawPair, remainder}
-use Rattle.forms.specs.Wide.{wide, Shaped}
+use Rattle.forms.specs.Wide.{wide, StepShaped}
 use Rattle.forms.specs.Same.{wide-centre, wide-term, wide-square, wide-pair, wide-remainder}
 use Rattle.forms.specs.Past.{centre-none, term-none, square-none, pair-none, remainder-none}
 use Rattle.raw.specs.Unused.{same-row}
 use Rattle.raw.specs.Append.{wideTerm, term-same}
 use Rattle.raw.specs.Parts.{wideVectors}
 
-module _ (p : Step) (shaped : Shaped p) (z : Zonotope) where
+module _ (p : Step) (shaped : StepShaped p) (z : Zonotope) where
   abbrev W : Step
   W = wide p
 

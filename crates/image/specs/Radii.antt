@@ -11,13 +11,13 @@ use Rattle.whole.specs.Sum.{uptoBy}
 use Rattle.whole.specs.Tab.{tab, tab-cong, getD-tab}
 use Rattle.rows.specs.Rows.{Small}
 use Rattle.model.specs.Set.{radius, termSizes, generatorSizes}
-use Rattle.model.specs.Valid.{constant}
+use Rattle.model.specs.Valid.{factorless}
 use Rattle.model.specs.Step.{remainder}
 use Rattle.zonotope.specs.Record.{view}
 use Rattle.zonotope.specs.declared.PolyZonotope.{PolyZonotope}
 use Rattle.forms.specs.Numbers.{six, lineTable, tableLimit}
 use Rattle.raw.specs.Zeros.{constant-at}
-use Rattle.raw.specs.Accepted.{Accepted}
+use Rattle.raw.specs.Accepted.{InSpan}
 use Rattle.raw.specs.Unused.{centre-row, radius-row}
 use Rattle.raw.specs.Limits.{rowSizes, term-sizes, generator-sizes, sums-small}
 use Rattle.image.specs.Remainder.{Below, spread, slopeSum, crossSum, roundedUp, imageLimit, tab-below, slope-small, cross-small}
@@ -32,7 +32,7 @@ no-rows : (xs : List ℤ) (i : ℕ) → rowSizes xs 0 i ≡ 0
 unfolding uptoBy
 no-rows xs i = refl
 
-module _ (s : PolyZonotope) (ok : Accepted s) where
+module _ (s : PolyZonotope) (ok : InSpan s) where
   -- r: the generators' sizes with the radii
   abbrev pub independentSpread : ℕ → ℕ
   independentSpread = spread (s .vectors) (s .generators) (s .radii)
@@ -63,7 +63,7 @@ module _ (s : PolyZonotope) (ok : Accepted s) where
   pub no-rows-room : (j : ℕ) → j < 6 → rowSizes (s .coefficients) 0 j ≤ 1048576
   no-rows-room j h = rw (no-rows (s .coefficients) j) (omega arith)
 
-  module _ (none : List ℕ) (empty : T (constant none)) where
+  module _ (none : List ℕ) (empty : T (factorless none)) where
     -- D: the terms' sizes; `none` is an array of zeros
     abbrev pub termSpread : ℕ → ℕ
     termSpread = spread (s .coefficients) (s .terms) none

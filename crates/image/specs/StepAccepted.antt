@@ -13,7 +13,7 @@ use Rattle.rows.specs.Rows.{Small}
 use Rattle.model.specs.Limits.{maxEntry, maxConstant}
 use Rattle.model.specs.Step.{Step}
 use Rattle.model.specs.Field.{badDimension, beyond, differs}
-use Rattle.forms.specs.Wide.{Shaped}
+use Rattle.forms.specs.Wide.{StepShaped}
 use Rattle.raw.specs.Tests.{none-beyond}
 
 -- a count out of limits, a list whose length the counts don't give, an entry out of range: none of these
@@ -36,7 +36,7 @@ same : (m n : ℕ) → differs m n ≡ false → m ≡ n
 same m n h = eqb-true m n (not-false (eqb m n) h)
 
 module _ (p : Step) (ok : StepAccepted p) where
-  pub shaped : Shaped p
+  pub shaped : StepShaped p
   shaped =
       let n = or-false (badDimension (p .rows)) (badDimension (p .columns)) (ok .counts) in
       let constant = differs (length (p .constant)) (p .rows) in

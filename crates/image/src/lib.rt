@@ -4,7 +4,7 @@ ghost use Prim.Native.Nat.{_≤_};
 ghost use lib.ListN.{length};
 ghost use Rattle.rows.specs.Rows.{Small};
 ghost use Rattle.forms.specs.Numbers.{six};
-ghost use Rattle.raw.specs.Accepted.{Accepted};
+ghost use Rattle.raw.specs.Accepted.{InSpan};
 ghost use Rattle.image.specs.StepAccepted.{StepAccepted, stepOf};
 ghost use Rattle.image.specs.Imaged.{Imaged};
 
@@ -32,7 +32,7 @@ pub fn of_step(
     w: &mut [i64],
     e: &mut [u8],
 ) -> Image
-    requires { ⌜ StepAccepted (stepOf m n (now c) (now a) (now q)) × Accepted s
+    requires { ⌜ StepAccepted (stepOf m n (now c) (now a) (now q)) × InSpan s
         × (5160 ≤ length (now w)) × (10320 ≤ length (now e)) ⌝ }
     ensures { λ r. ⌜ Imaged (stepOf m n (now (c .entry)) (now (a .entry)) (now (q .entry))) s (now (e .entry)) (now (w .entry)) r
         (now (e .exit)) (now (w .exit)) ⌝ }
@@ -52,7 +52,7 @@ fn of_wide_step(
     w: &mut [i64],
     e: &mut [u8],
 ) -> Image
-    requires { ⌜ Small 1048576 (now c) × Small 32768 (now a) × Small 32768 (now q) × Accepted s
+    requires { ⌜ Small 1048576 (now c) × Small 32768 (now a) × Small 32768 (now q) × InSpan s
         × (5160 ≤ length (now w)) × (10320 ≤ length (now e)) ⌝ }
     ensures { λ r. ⌜ Imaged (six (now (c .entry)) (now (a .entry)) (now (q .entry))) s (now (e .entry)) (now (w .entry)) r
         (now (e .exit)) (now (w .exit)) ⌝ }

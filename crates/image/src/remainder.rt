@@ -6,7 +6,7 @@ ghost use lib.ListN.{length, getD};
 ghost use Rattle.whole.specs.Tab.{tab};
 ghost use Rattle.rows.specs.Rows.{Small};
 ghost use Rattle.forms.specs.Numbers.{tableLimit};
-ghost use Rattle.raw.specs.Accepted.{Accepted};
+ghost use Rattle.raw.specs.Accepted.{InSpan};
 ghost use Rattle.raw.specs.Limits.{rowSizes};
 ghost use Rattle.image.specs.Remainder.{Below, spread, cellOf, slopeSum, crossRow, crossSum, roundedUp};
 ghost use Rattle.image.specs.Radii.{NewRadii};
@@ -14,7 +14,7 @@ use zonotope::PolyZonotope;
 
 // The new radii of a step on s, from the counts of inexact roundings.
 pub fn radii(a: &[i32; 36], q: &[i32; 216], s: PolyZonotope, counts: &[u64; 6]) -> [u64; 6]
-    requires { ⌜ Small 32768 (now a) × Small 32768 (now q) × Accepted s × Below 4294967296 (now counts) ⌝ }
+    requires { ⌜ Small 32768 (now a) × Small 32768 (now q) × InSpan s × Below 4294967296 (now counts) ⌝ }
     ensures { λ r. ⌜ NewRadii (now (a .entry)) (now (q .entry)) s (now (counts .entry)) r ⌝ }
 {
     let centre = s.centre;

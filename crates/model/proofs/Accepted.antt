@@ -31,7 +31,7 @@ pub record Passed (m : Meaning) : Type 0 where
   pub result-width : tooWide (m .result) ≡ false
 
 -- all tests
-pub record Accepted (st : State) (f : List ℕ) : Type 0 where
+pub record AcceptedField (st : State) (f : List ℕ) : Type 0 where
   pub not-over : st .over ≡ false
   pub numbered : st .count ≤ lastField
   pub placed : misplaced (st .count) f ≡ false
@@ -41,10 +41,10 @@ pub record Accepted (st : State) (f : List ℕ) : Type 0 where
   pub passed : Passed (meant st f)
 
 -- where no cause of a refusal holds, every test is passed
-pub no-refusal : (st : State) (f : List ℕ) → st .over ≡ false → refusal st f ≡ none → Accepted st f
+pub no-refusal : (st : State) (f : List ℕ) → st .over ≡ false → refusal st f ≡ none → AcceptedField st f
 unfolding causes
 no-refusal st f o e = go (no-cause (causes st f) e) where
-  go : All (λ c. c .holds ≡ false) (causes st f) → Accepted st f
+  go : All (λ c. c .holds ≡ false) (causes st f) → AcceptedField st f
   go (more late (more place (more end (more short (more counts (more bytes (more sizes (more range (more order (more wide (more many
       (more result t)))))))))))) = record {
         not-over = o;
@@ -65,11 +65,11 @@ no-refusal st f o e = go (no-cause (causes st f) e) where
       }
 
 -- An accepted field passed every test.
-pub accepted-passed : (st : State) (f : List ℕ) → T (accepted st f) → Accepted st f
+pub accepted-passed : (st : State) (f : List ℕ) → T (accepted st f) → AcceptedField st f
 unfolding accepted
 accepted-passed st f t = go (st .over) (refusal st f) refl refl t where
   go : (b : Bool) (o : Option ℕ) → st .over ≡ b → refusal st f ≡ o → T (cond b false (elim o [ none ↦ true | some n ↦ false ]))
-      → Accepted st f
+      → AcceptedField st f
   go true o p q t = absurd t
   go false none p q t = no-refusal st f p q
   go false (some n) p q t = absurd t

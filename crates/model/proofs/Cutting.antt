@@ -87,7 +87,7 @@ unfolding fieldsWithin
 none-left = refl
 
 -- the first of them, and those of what follows it
-abbrev fieldsAfter : List ℕ → List (List ℕ)
+abbrev pub fieldsAfter : List ℕ → List (List ℕ)
 fieldsAfter rest = let next = drop (length (firstField rest)) rest in fieldsWithin (length next) next
 
 split : (n : ℕ) (t : ℕ) (l : List ℕ) → length (t ∷ l) ≤ n → fieldsWithin n (t ∷ l) ≡ firstField (t ∷ l) ∷ fieldsAfter (t ∷ l)
@@ -101,7 +101,7 @@ split (suc n) t l h =
     ∙ within-same n (length (drop (length (firstField rest)) rest)) (drop (length (firstField rest)) rest)
     (omega (arith, ap length (past-first rest))) (omega arith))
 
-first-left : (n : ℕ) (rest : List ℕ) → (length rest ≡ 0 → n ≡ 0) → fieldsLeft n rest ≡ firstField rest ∷ fieldsAfter rest
+pub first-left : (n : ℕ) (rest : List ℕ) → (length rest ≡ 0 → n ≡ 0) → fieldsLeft n rest ≡ firstField rest ∷ fieldsAfter rest
 unfolding fieldsLeft fields
 first-left zero [] h =
     let next : drop (length (firstField [])) [] ≡ [] = drop-nil {A = ℕ} (length (firstField [])) in

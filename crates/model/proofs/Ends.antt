@@ -2,7 +2,7 @@
 use mathlib.Core.Path.{_≡_, refl, sym, _∙_, ap, ap₂, subst, subst₂, fun-ext}
 use mathlib.Core.List.{List, [], _∷_, _++_}
 use mathlib.Core.Bool.{Bool, true, false}
-use Prim.Native.Nat.{ℕ, suc, _+_}
+use Prim.Native.Nat.{ℕ, zero, suc, _+_}
 use native.Mathlib.Omega.{arith}
 use lib.Dec.{T}
 use lib.IntN.{ℤ, pos, negsuc, negℤ, natAbs, _+ℤ_, _-ℤ_}
@@ -19,7 +19,7 @@ use Rattle.rational.specs.Near.{Near, near-neg, near-as}
 use Rattle.rational.specs.Sum.{sum, sum-++, All, none, more}
 use Rattle.model.specs.Set.{Term, Zonotope}
 use Rattle.model.specs.Finish.{allEven}
-use Rattle.model.specs.Operations.{least, lowEnd, highEnd}
+use Rattle.model.specs.Operations.{least, greatest, lowEnd, highEnd}
 use Rattle.model.specs.Points.{Vector, Point, InRange}
 use Rattle.model.proofs.Parts.{Part, termParts, generatorParts, partsOf, monomial-within, monomial-even}
 
@@ -83,11 +83,19 @@ unfolding sumBy
 sum-neg f [] = refl
 sum-neg f (a ∷ l) = rw (sum-neg f l) (simp as-ℕ (omega arith))
 
+greatest-least : (b : Bool) (g : ℤ) → greatest b g ≡ negℤ (least b (negℤ g))
+unfolding least greatest
+greatest-least true (pos zero) = refl
+greatest-least true (pos (suc n)) = refl
+greatest-least true (negsuc n) = refl
+greatest-least false g = rw (abs-neg g) (simp as-ℕ (omega arith))
+
 high-low : (value : List ℤ → ℤ) (wide : ℕ) (s : Zonotope) → highEnd value wide s ≡ negℤ (lowEnd (λ v. negℤ (value v)) wide s)
 unfolding highEnd lowEnd
 high-low value wide s =
-    ap₂ (λ t m. value (s .centre) +ℤ t +ℤ pos (m + wide)) (sum-neg (λ t. least (allEven (t .exponents)) (negℤ (value (t .coefficients))))
-    (s .terms))
+    ap₂ (λ t m. value (s .centre) +ℤ t +ℤ pos (m + wide))
+    (ap (λ (f : Term → ℤ). sumℤ f (s .terms)) (fun-ext λ t. greatest-least (allEven (t .exponents)) (value (t .coefficients)))
+    ∙ sum-neg (λ t. least (allEven (t .exponents)) (negℤ (value (t .coefficients)))) (s .terms))
     (ap (λ (f : List ℤ → ℕ). sumℕ f (s .generators)) (fun-ext λ g. sym (abs-neg (value g))))
     ∙ turn (value (s .centre)) _ _
   where

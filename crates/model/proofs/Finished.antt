@@ -11,7 +11,7 @@ use lib.ListN.{length, length-map}
 use Rattle.whole.specs.Tab.{any}
 use Rattle.rational.specs.Sum.{All, none, more, All-imp, All-map}
 use Rattle.model.specs.Set.{Term, Zonotope}
-use Rattle.model.specs.Valid.{constant, zeros, occurs}
+use Rattle.model.specs.Valid.{factorless, zeros, occurs}
 use Rattle.model.specs.Finish.{keepAt, keepExponents, collectTerms, dropZeroTerms, dropZeroGenerators, foldHigh, foldTerms}
 use Rattle.model.specs.Finish.{foldGenerators, dropUnused, finish}
 use Rattle.model.proofs.Lists.{Rising, Sublist, sublist-all, sublist-rising, sublist-length, all-both, rising-map}
@@ -25,7 +25,7 @@ use Rattle.model.proofs.Unused.{keep-sublist, keep-length, keep-constan
 pub record Ready (s : Zonotope) : Type 0 where
   pub shaped : Shaped s
   pub identifiers-rise : Rising _<_ (s .identifiers)
-  pub has-factors : All (λ t. constant (t .exponents) ≡ false) (s .terms)
+  pub has-factors : All (λ t. factorless (t .exponents) ≡ false) (s .terms)
 
 pub ordered-ready : {s : Zonotope} → Shaped s → Ordered s → Ready s
 ordered-ready h o =

@@ -8,7 +8,7 @@ use lib.Dec.{leb}
 use lib.ListN.{length}
 use lib.Seq.{append-snoc}
 use Rattle.model.specs.Set.{Zonotope}
-use Rattle.model.specs.Finish.{Core, Taken, those, foldAll, foldTerm, foldGenerator, smallest, foldSmallest, foldTimes, core, high}
+use Rattle.model.specs.Finish.{Core, Taken, those, foldAll, foldTerm, foldGenerator, smallest, foldSmallest, foldTimes, core, tooHigh}
 use Rattle.model.specs.Finish.{size}
 use Rattle.model.specs.Finish.{withTerms, withGenerators, foldHigh, foldTerms, foldGenerators}
 use Rattle.model.specs.Points.{Point}
@@ -68,7 +68,7 @@ pub fold-high-covers : (s : Zonotope) → Covers s (foldHigh s)
 unfolding foldHigh
 fold-high-covers s = record {
   keeps = λ {α} {x} w. those-keep foldTerm (λ c l. Point (withTerms s (record { core = c; kept = l })) α x) (term-folded s w)
-      high (core s) [] (s .terms);
+      tooHigh (core s) [] (s .terms);
 }
 
 -- stage 4, terms: whichever are folded

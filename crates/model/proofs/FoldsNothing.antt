@@ -6,7 +6,7 @@ use mathlib.Core.Logic.{_↔_}
 use Prim.Native.Nat.{ℕ}
 use Rattle.rational.specs.Sum.{All, none, more, All-imp}
 use Rattle.model.specs.Set.{Zonotope}
-use Rattle.model.specs.Finish.{core, those, foldAll, foldTerm, high, withTerms}
+use Rattle.model.specs.Finish.{core, those, foldAll, foldTerm, tooHigh, withTerms}
 use Rattle.model.specs.Finish.{foldHigh, foldTerms, foldGenerators, dropUnused, finish}
 use Rattle.model.specs.Points.{Vector, Point}
 use Rattle.model.specs.Precision.{cleaned, FoldsNothing}
@@ -29,7 +29,7 @@ all-pass p (more {a = a} h t) = rw h (ap (a ∷_) (all-pass p t))
 pub high-stays : (s : Zonotope) → All Low (s .terms) → foldHigh s ≡ s
 unfolding foldHigh foldAll
 high-stays s a = let l = All-imp not-high a in
-    ap₂ (λ ts us. withTerms s (record { core = foldAll foldTerm ts (core s); kept = us })) (none-pass high l) (all-pass high l)
+    ap₂ (λ ts us. withTerms s (record { core = foldAll foldTerm ts (core s); kept = us })) (none-pass tooHigh l) (all-pass tooHigh l)
 
 -- and so the finished set and the set are alike
 pub finish-alike : (weights : List ℕ) (h q : ℕ) (s : Zonotope) → FoldsNothing h q s → Alike s (finish weights h q s)

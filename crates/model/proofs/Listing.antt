@@ -17,8 +17,8 @@ use Rattle.model.specs.Finish.{keepAt, collectTerms, dropZeroTerms, drop
 use Rattle.model.specs.Finish.{dropUnused, finish}
 use Rattle.model.specs.Step.{dot, bilinear, rawCentre, rawLinear, rawSquare, rawPair, pairs, remainder, raw, inexactAt}
 use Rattle.model.specs.Step.{roundedRadius, rounded, step}
-use Rattle.model.specs.Operations.{insertIdentifier, union, align, joined, tiedSum, renumbered, independentSum, least, lowEnd}
-use Rattle.model.specs.Operations.{highEnd, box, lowAlong, safe}
+use Rattle.model.specs.Operations.{insertIdentifier, union, align, joined, tiedSum, renumbered, independentSum, least, greatest}
+use Rattle.model.specs.Operations.{lowEnd, highEnd, box, lowAlong, safe}
 use Rattle.model.specs.Bytes.{number, word, long}
 use Rattle.model.specs.Body.{givenSet, givenStep, givenHalfspaces}
 use Rattle.model.specs.Field.{Outcome, inside, verdict, refused, meaning}
@@ -63,7 +63,7 @@ unfolding answers outcome after causes firstOf misplaced cut kindOf fields field
     rawLinear rawSquare rawPair pairs remainder inexactAt roundedRadius dot bilinear round exact inexact independentSum tiedSum renumbered
     joined union insertIdentifier align finish dropUnused foldGenerators foldTerms foldHigh dropZeroGenerators dropZeroTerms collectTerms
     insert collectInto those foldAll foldVector shift growth foldTimes foldSmallest smallest size keepAt longer even half halfSize box
-    lowEnd highEnd least lowAlong safe
+    lowEnd highEnd least greatest lowAlong safe
 listing = (refl, refl, refl)
 
 -- an empty input, a lone unknown tag, a lone known one, and a start set that is cut short
@@ -74,5 +74,5 @@ pub refusals :
     × (answered ((1 ∷ body) ++ (8 ∷ [])) ≡ line 0 (negsuc 4095) (pos 4096) ∷ said 1 (refused 2 24) ∷ [])
 unfolding answers outcome after causes firstOf misplaced cut kindOf fields fieldsWithin meaning number word long givenSet givenStep
     givenHalfspaces badRange badOrder tooWide span termSizes generatorSizes rises order sumBy uptoBy tab any all box lowEnd highEnd least
-    even
+    greatest even
 refusals = (refl, refl, refl, refl)

@@ -24,8 +24,8 @@ use Rattle.model.specs.Finish.{insert, collectInto, those, shift, growth
 use Rattle.model.specs.Finish.{foldTimes}
 use Rattle.model.specs.Finish.{keepAt, collectTerms, dropZeroTerms, dropZeroGenerators, foldHigh, foldTerms, foldGenerators}
 use Rattle.model.specs.Finish.{dropUnused, finish}
-use Rattle.model.specs.Operations.{insertIdentifier, union, align, joined, tiedSum, renumbered, independentSum, least, lowEnd}
-use Rattle.model.specs.Operations.{highEnd, box, Box}
+use Rattle.model.specs.Operations.{insertIdentifier, union, align, joined, tiedSum, renumbered, independentSum, least, greatest}
+use Rattle.model.specs.Operations.{lowEnd, highEnd, box, Box}
 use Rattle.model.specs.Bytes.{number, word}
 use Rattle.model.specs.Body.{givenSet}
 use Rattle.model.specs.Field.{meaning, inside}
@@ -105,7 +105,7 @@ computed :
 unfolding follow accepted after outcome causes firstOf misplaced cut kindOf meaning number word givenSet badRange badOrder tooWide span
     termSizes generatorSizes rises order sumBy uptoBy tab any all independentSum tiedSum renumbered joined union insertIdentifier align
     finish dropUnused foldGenerators foldTerms foldHigh dropZeroGenerators dropZeroTerms collectTerms insert collectInto those foldAll
-    foldVector shift growth foldTimes foldSmallest smallest size keepAt longer even half halfSize box lowEnd highEnd least
+    foldVector shift growth foldTimes foldSmallest smallest size keepAt longer even half halfSize box lowEnd highEnd least greatest
     move valueAt termsAt generatorsAt monomial power sum
 computed = (tt, refl, refl)
 

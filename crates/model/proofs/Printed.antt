@@ -14,7 +14,7 @@ use Rattle.model.specs.Finish.{keepAt, collectTerms, dropZeroTerms, drop
 use Rattle.model.specs.Finish.{dropUnused, finish}
 use Rattle.model.specs.Step.{dot, bilinear, rawCentre, rawLinear, rawSquare, rawPair, pairs, remainder, raw, inexactAt}
 use Rattle.model.specs.Step.{roundedRadius, rounded, step}
-use Rattle.model.specs.Operations.{insertIdentifier, union, align, joined, tiedSum, renumbered, independentSum, least, lowEnd}
+use Rattle.model.specs.Operations.{insertIdentifier, union, align, joined, tiedSum, renumbered, independentSum, least, greatest, lowEnd}
 use Rattle.model.specs.Operations.{highEnd, box, lowAlong, safe}
 use Rattle.model.specs.Bytes.{number, word, long}
 use Rattle.model.specs.Body.{givenSet, givenStep, givenHalfspaces}
@@ -34,7 +34,7 @@ unfolding printed linesFrom closing outcomeLine endLine boxLine verdictLine ends
     rawPair pairs remainder inexactAt roundedRadius dot bilinear round exact inexact independentSum tiedSum renumbered joined union
     insertIdentifier align finish dropUnused foldGenerators foldTerms foldHigh dropZeroGenerators dropZeroTerms collectTerms insert
     collectInto those foldAll foldVector shift growth foldTimes foldSmallest smallest size keepAt longer even half halfSize box lowEnd
-    highEnd least lowAlong safe
+    highEnd least greatest lowAlong safe
 listing-printed = (refl, refl, refl)
 
 -- an empty input, a lone unknown tag, a start set that is followed by one, and by a field that is cut short
@@ -45,5 +45,5 @@ pub refusals-printed :
     × (printed ((1 ∷ body) ++ (5 ∷ 21 ∷ [])) ≡ ascii "0 1 -4096 4096\n1 refused 1 24\n")
 unfolding printed linesFrom closing outcomeLine boxLine refusalLine ends following signedDecimal decimal decimalWithin ascii outcome after
     causes firstOf misplaced cut kindOf fields fieldsWithin meaning number word long givenSet givenStep givenHalfspaces badRange badOrder
-    tooWide span termSizes generatorSizes rises order sumBy uptoBy tab any all box lowEnd highEnd least even
+    tooWide span termSizes generatorSizes rises order sumBy uptoBy tab any all box lowEnd highEnd least greatest even
 refusals-printed = (refl, refl, refl, refl)

@@ -11,9 +11,9 @@ use Rattle.whole.specs.Tab.{tab, any, all}
 use Rattle.rational.specs.Sum.{All, All-imp}
 use Rattle.model.specs.Limits.{maxDimension, maxFactors, maxTerms, maxGenerators, maxExponent}
 use Rattle.model.specs.Set.{Term, Zonotope}
-use Rattle.model.specs.Valid.{Order, less, equal, greater, order, isLess, rises, zeros, constant, occurs}
+use Rattle.model.specs.Valid.{Order, less, equal, greater, order, isLess, rises, zeros, factorless, occurs}
 use Rattle.model.specs.Valid.{badCounts, badRange, badOrder, tooWide}
-use Rattle.model.specs.Finish.{high}
+use Rattle.model.specs.Finish.{tooHigh}
 use Rattle.model.proofs.Order.{order-trans}
 use Rattle.model.proofs.Lists.{Rising}
 use Rattle.model.proofs.Tests.{or-false, false-or, any-false, false-any, all-true, true-all, all-tab, tab-all, rises-true}
@@ -52,7 +52,7 @@ Before t u = order (t .exponents) (u .exponents) ≡ less
 
 -- a term that belongs in a set: it has a factor and is not zero
 pub record Proper (t : Term) : Type 0 where
-  pub has-factor : constant (t .exponents) ≡ false
+  pub has-factor : factorless (t .exponents) ≡ false
   pub not-zero : zeros (t .coefficients) ≡ false
 
 pub record Ordered (s : Zonotope) : Type 0 where
@@ -96,19 +96,19 @@ counts-false {s} c =
     false-or (false-or (false-or (false-or (ne-eqb _ 0 (not-none (c .dimension-some))) (le-ltb _ _ (c .dimension-few)))
     (le-ltb _ _ (c .factors-few))) (le-ltb _ _ (c .terms-few))) (le-ltb _ _ (c .generators-few))
 
-pub low : (t : Term) → high t ≡ false → Low t
+pub low : (t : Term) → tooHigh t ≡ false → Low t
 low t e = All-imp (λ k h. ltb-false _ _ h) (any-false _ (t .exponents) e)
 
-pub not-high : (t : Term) → Low t → high t ≡ false
+pub not-high : (t : Term) → Low t → tooHigh t ≡ false
 not-high t h = false-any _ (All-imp (λ k l. le-ltb _ _ l) h)
 
 pub ranged : (largest : ℕ) (s : Zonotope) → badRange largest s ≡ false → Ranges largest s
 unfolding badRange
 ranged largest s e =
-    let a = or-false _ (any high (s .terms)) e in
+    let a = or-false _ (any tooHigh (s .terms)) e in
     record {
       identifiers-in = All-imp (λ k h. identifier k (or-false (eqb k 0) (ltb largest k) h)) (any-false _ (s .identifiers) (a .0));
-      exponents-in = All-imp low (any-false high (s .terms) (a .1));
+      exponents-in = All-imp low (any-false tooHigh (s .terms) (a .1));
     }
   where
     identifier : (k : ℕ) → (eqb k 0 ≡ false) × (ltb largest k ≡ false) → (0 < k) × (k ≤ largest)
@@ -118,7 +118,7 @@ pub ranges-false : {largest : ℕ} {s : Zonotope} → Ranges largest s → badRa
 unfolding badRange
 ranges-false {largest} {s} r =
     false-or (false-any _ (All-imp (λ k h. false-or (ne-eqb k 0 (not-none (h .0))) (le-ltb _ _ (h .1))) (r .identifiers-in)))
-    (false-any high (All-imp not-high (r .exponents-in)))
+    (false-any tooHigh (All-imp not-high (r .exponents-in)))
 
 is-less : (o : Order) → isLess o ≡ true → o ≡ less
 is-less less e = refl
@@ -130,18 +130,18 @@ unfolding badOrder
 in-order s e =
     let a = or-false _ (not (all (occurs (s .terms)) (tab (length (s .identifiers)) (λ j. j)))) e in
     let b = or-false _ (any zeros (s .generators)) (a .0) in
-    let c = or-false _ (any (λ t. constant (t .exponents) || zeros (t .coefficients)) (s .terms)) (b .0) in
+    let c = or-false _ (any (λ t. factorless (t .exponents) || zeros (t .coefficients)) (s .terms)) (b .0) in
     let d = or-false (not (rises ltb (s .identifiers))) _ (c .0) in
     record {
       identifiers-rise = rises-true ltb (λ k m h. ltb-true k m h) (λ j k m p q. lt-trans p q) (s .identifiers) (not-false _ (d .0));
       terms-rise = rises-true _ (λ t u h. is-less _ h) (λ t u v p q. order-trans _ _ _ p q) (s .terms) (not-false _ (d .1));
-      terms-proper = All-imp (λ t h. proper t (or-false (constant (t .exponents)) (zeros (t .coefficients)) h))
+      terms-proper = All-imp (λ t h. proper t (or-false (factorless (t .exponents)) (zeros (t .coefficients)) h))
           (any-false _ (s .terms) (c .1));
       generators-proper = any-false zeros (s .generators) (b .1);
       factors-occur = tab-all (length (s .identifiers)) (λ j. j) (all-true _ _ (not-false _ (a .1)));
     }
   where
-    proper : (t : Term) → (constant (t .exponents) ≡ false) × (zeros (t .coefficients) ≡ false) → Proper t
+    proper : (t : Term) → (factorless (t .exponents) ≡ false) × (zeros (t .coefficients) ≡ false) → Proper t
     proper t h = record { has-factor = h .0; not-zero = h .1 }
 
 pub order-false : {s : Zonotope} → Ordered s → badOrder s ≡ false

@@ -12,7 +12,7 @@ use Rattle.model.specs.Set.{Zonotope}
 use Rattle.model.specs.Run.{State, begin, noSet, current, tag, body, kindOf, meant, refusal, misplaced, after, run}
 use Rattle.model.proofs.Shape.{Valid}
 use Rattle.model.proofs.Held.{Held, held, held-valid}
-use Rattle.model.proofs.Accepted.{Accepted, no-refusal, first-starts}
+use Rattle.model.proofs.Accepted.{AcceptedField, no-refusal, first-starts}
 use Rattle.model.proofs.ByKind.{starts, Leaves, leaves}
 
 pub record Sound (st : State) : Type 0 where
@@ -59,17 +59,17 @@ module _ {st : State} (h : Sound st) where
         (v, subst (λ u. All (_< st .next) (u .identifiers)) same (h .below))
 
   -- a field that is no start set is accepted only where there is a set, and that is held
-  pub current-held : (f : List ℕ) → Accepted st f → starts (kindOf (tag f)) ≡ false → Held (st .next) (current st)
+  pub current-held : (f : List ℕ) → AcceptedField st f → starts (kindOf (tag f)) ≡ false → Held (st .next) (current st)
   current-held f a e = go (st .count) refl where
     go : (n : ℕ) → st .count ≡ n → Held (st .next) (current st)
     go zero q = absurd (true≢false (sym (ap starts (first-starts f (subst (λ n. misplaced n f ≡ false) q (a .placed)) (a .whole))) ∙ e))
     go (suc n) q = holds (omega arith)
 
   -- what an accepted field leaves
-  pub accepted-leaves : (f : List ℕ) → Accepted st f → Leaves (st .next) (meant st f)
+  pub accepted-leaves : (f : List ℕ) → AcceptedField st f → Leaves (st .next) (meant st f)
   accepted-leaves f a = leaves (kindOf (tag f)) (body f) (st .next) (current st) (h .from-first) (current-held f a) (a .passed)
 
-  accepted-sound : (f : List ℕ) → Accepted st f
+  accepted-sound : (f : List ℕ) → AcceptedField st f
       → Sound (record { set = some (meant st f .result); next = meant st f .next; count = st .count + 1; over = false })
   accepted-sound f a =
       let l = accepted-leaves f a in

@@ -8,9 +8,9 @@ use lib.IntN.{ℤ, _+ℤ_}
 use borrow.Author.Tests.{not-true}
 use Rattle.rational.specs.Sum.{All, All-imp}
 use Rattle.model.specs.Set.{Term, Zonotope}
-use Rattle.model.specs.Valid.{constant, zeros}
+use Rattle.model.specs.Valid.{factorless, zeros}
 use Rattle.model.specs.Finish.{Core, addTerm, shift, growth, foldVector, foldTerm, foldGenerator}
-use Rattle.model.specs.Finish.{high, core, collectTerms, dropZeroTerms, dropZeroGenerators, foldHigh, foldTerms}
+use Rattle.model.specs.Finish.{tooHigh, core, collectTerms, dropZeroTerms, dropZeroGenerators, foldHigh, foldTerms}
 use Rattle.model.specs.Finish.{foldGenerators, withTerms, withGenerators}
 use Rattle.model.proofs.Vectors.{longer-length}
 use Rattle.model.proofs.Lists.{Rising, Sublist, sublist-refl, sublist-trans, sublist-all}
@@ -24,7 +24,7 @@ pub record Collected (s u : Zonotope) : Type 0 where
   pub same-dimension : u .dimension ≡ s .dimension
   pub same-identifiers : u .identifiers ≡ s .identifiers
   pub shaped : Shaped u
-  pub has-factors : All (λ t. constant (t .exponents) ≡ false) (u .terms)
+  pub has-factors : All (λ t. factorless (t .exponents) ≡ false) (u .terms)
   pub terms-rise : Rising Before (u .terms)
 
 add-row : {p n : ℕ} (u t : Term) → Row p n u → Row p n t → Row p n (addTerm u t)
@@ -34,7 +34,7 @@ add-row u t a b = record {
       longer-length _+ℤ_ (u .coefficients) (t .coefficients) (a .coefficients-long ∙ sym (b .coefficients-long)) ∙ a .coefficients-long;
 }
 
-pub collected : {s : Zonotope} → Shaped s → All (λ t. constant (t .exponents) ≡ false) (s .terms) → Collected s (collectTerms s)
+pub collected : {s : Zonotope} → Shaped s → All (λ t. factorless (t .exponents) ≡ false) (s .terms) → Collected s (collectTerms s)
 unfolding collectTerms
 collected {s} h f = record {
   same-dimension = refl;
@@ -68,23 +68,23 @@ lessened-trans a b = record {
 }
 
 -- centre and radii keep their lengths
-record Sized (n : ℕ) (k : Core) : Type 0 where
+record CoreLong (n : ℕ) (k : Core) : Type 0 where
   pub centre-long : length (k .centre) ≡ n
   pub radii-long : length (k .radii) ≡ n
 
-fold-sized : {n : ℕ} (b : Bool) (v : List ℤ) (k : Core) → length v ≡ n → Sized n k → Sized n (foldVector b v k)
+fold-sized : {n : ℕ} (b : Bool) (v : List ℤ) (k : Core) → length v ≡ n → CoreLong n k → CoreLong n (foldVector b v k)
 unfolding foldVector
 fold-sized b v k e h = record {
   centre-long = longer-length _+ℤ_ (k .centre) (map (shift b) v) (h .centre-long ∙ sym e ∙ sym (length-map v (shift b))) ∙ h .centre-long;
   radii-long = longer-length _+_ (k .radii) (map (growth b) v) (h .radii-long ∙ sym e ∙ sym (length-map v (growth b))) ∙ h .radii-long;
 }
 
-term-sized : {p n : ℕ} (t : Term) (k : Core) → Row p n t → Sized n k → Sized n (foldTerm t k)
+term-sized : {p n : ℕ} (t : Term) (k : Core) → Row p n t → CoreLong n k → CoreLong n (foldTerm t k)
 term-sized t k r h = fold-sized _ (t .coefficients) k (r .coefficients-long) h
 
 -- a core of the set's own lengths
 abbrev Fits : Zonotope → Core → Type 0
-Fits s k = Shaped s → Sized (s .dimension) k
+Fits s k = Shaped s → CoreLong (s .dimension) k
 
 own-core : {s : Zonotope} → Fits s (core s)
 own-core h = record { centre-long = h .centre-long; radii-long = h .radii-long }
@@ -140,7 +140,7 @@ zero-generators-gone s = All-imp (λ t h. not-true _ h) (those-pass _ (s .genera
 pub high-terms : (s : Zonotope) → Lessened s (foldHigh s)
 unfolding foldHigh
 high-terms s = fewer-terms (those-sublist _ (s .terms))
-    (λ h. all-core foldTerm term-sized (sublist-all (those-sublist high (s .terms)) (h .rows)) (own-core h))
+    (λ h. all-core foldTerm term-sized (sublist-all (those-sublist tooHigh (s .terms)) (h .rows)) (own-core h))
 
 pub high-terms-gone : (s : Zonotope) → All Low (foldHigh s .terms)
 unfolding foldHigh

@@ -11,7 +11,7 @@ use Rattle.whole.specs.Round.{round}
 use Rattle.whole.specs.Tab.{tab, all, length-tab}
 use Rattle.rational.specs.Sum.{All, none, more, All-imp, All-map, All-++}
 use Rattle.model.specs.Set.{Term, Zonotope, longer, plusℕ}
-use Rattle.model.specs.Valid.{constant}
+use Rattle.model.specs.Valid.{factorless}
 use Rattle.model.specs.Step.{Step, own, paired, pairs, rawCentre, rawLinear, raw, rounded}
 use Rattle.model.proofs.Vectors.{longer-length}
 use Rattle.model.proofs.Lists.{all-both}
@@ -19,13 +19,13 @@ use Rattle.model.proofs.Shape.{Row}
 use Rattle.model.proofs.Finished.{Ready}
 
 -- the sum of exponents has a factor where the first row has one
-plus-factor : (e f : List ℕ) → constant e ≡ false → constant (plusℕ e f) ≡ false
+plus-factor : (e f : List ℕ) → factorless e ≡ false → factorless (plusℕ e f) ≡ false
 unfolding longer all
 plus-factor [] f h = absurd (true≢false h)
 plus-factor (x ∷ e) [] h = h
 plus-factor (x ∷ e) (y ∷ f) h = go (eqb x 0) refl h (plus-factor e f) where
-  go : (b : Bool) → eqb x 0 ≡ b → (b && constant e) ≡ false → (constant e ≡ false → constant (plusℕ e f) ≡ false)
-      → (eqb (x + y) 0 && constant (plusℕ e f)) ≡ false
+  go : (b : Bool) → eqb x 0 ≡ b → (b && factorless e) ≡ false → (factorless e ≡ false → factorless (plusℕ e f) ≡ false)
+      → (eqb (x + y) 0 && factorless (plusℕ e f)) ≡ false
   go true q k ih = last (eqb (x + y) 0) (ih k) where
     last : (b : Bool) {c : Bool} → c ≡ false → (b && c) ≡ false
     last true e = e
@@ -34,7 +34,7 @@ plus-factor (x ∷ e) (y ∷ f) h = go (eqb x 0) refl h (plus-factor e f) where
 
 -- a term of p factors in n coordinates that has a factor
 abbrev Factored : ℕ → ℕ → Term → Type 0
-Factored p n t = Row p n t × (constant (t .exponents) ≡ false)
+Factored p n t = Row p n t × (factorless (t .exponents) ≡ false)
 
 module _ (p : Step) (s : Zonotope) {m n : ℕ} where
   own-factored : (t : Term) → Factored m n t → Factored m (p .rows) (own p s t)

@@ -12,7 +12,7 @@ use borrow.Author.Tests.{lt-ltb, eq-eqb, ne-eqb}
 use Rattle.whole.specs.Tab.{tab, all, length-tab}
 use Rattle.rational.specs.Sum.{All, All-imp, All-map, All-++}
 use Rattle.model.specs.Set.{Zonotope}
-use Rattle.model.specs.Valid.{constant}
+use Rattle.model.specs.Valid.{factorless}
 use Rattle.model.specs.Operations.{union, align, aligned, joined, renumbered}
 use Rattle.model.proofs.Vectors.{longer-length}
 use Rattle.model.proofs.Lists.{Rising, nothing, first, all-both}
@@ -35,12 +35,12 @@ align-length (k ∷ ks) (e ∷ es) (m ∷ ms) = go (eqb k m) (align-length ks es
   go false p q = ap suc q
 
 -- where every identifier is found, the row is constant as before
-align-none : (ms : List ℕ) → constant (align [] [] ms) ≡ true
+align-none : (ms : List ℕ) → factorless (align [] [] ms) ≡ true
 unfolding align all
 align-none [] = refl
 align-none (m ∷ ms) = align-none ms
 
-align-constant : {ks ms : List ℕ} (es : List ℕ) → length es ≡ length ks → Found ks ms → constant (align ks es ms) ≡ constant es
+align-constant : {ks ms : List ℕ} (es : List ℕ) → length es ≡ length ks → Found ks ms → factorless (align ks es ms) ≡ factorless es
 unfolding align all
 align-constant [] e (all-found ms) = align-none ms
 align-constant (x ∷ es) e (all-found ms) = absurd (omega arith)
@@ -57,7 +57,7 @@ aligned-rows ms s h e = All-map _ (All-imp (λ t r. record {
 }) (h .rows))
 
 aligned-factors : (ms : List ℕ) (s : Zonotope) → Found (s .identifiers) ms → Ready s
-    → All (λ t. constant (t .exponents) ≡ false) (aligned ms s)
+    → All (λ t. factorless (t .exponents) ≡ false) (aligned ms s)
 aligned-factors ms s a r = All-map _ (All-imp (λ t h. align-constant (t .exponents) (h .0 .exponents-long) a ∙ h .1)
     (all-both (r .shaped .rows) (r .has-factors)))
 

@@ -18,7 +18,7 @@ use Rattle.model.specs.Finish.{foldTimes, keepAt, collectTerms, dropZero
 use Rattle.model.specs.Finish.{foldGenerators, dropUnused, finish}
 use Rattle.model.specs.Step.{dot, bilinear, rawCentre, rawLinear, rawSquare, rawPair, pairs, remainder, raw, inexactAt}
 use Rattle.model.specs.Step.{roundedRadius, rounded, step}
-use Rattle.model.specs.Operations.{insertIdentifier, union, align, joined, tiedSum, renumbered, independentSum, least, lowEnd}
+use Rattle.model.specs.Operations.{insertIdentifier, union, align, joined, tiedSum, renumbered, independentSum, least, greatest, lowEnd}
 use Rattle.model.specs.Operations.{highEnd, box, lowAlong, safe, disturb, reduce}
 use Rattle.model.specs.Bytes.{number, word, long}
 use Rattle.model.specs.Body.{givenSet, givenStep, givenHalfspaces, givenRadii}
@@ -115,5 +115,5 @@ unfolding answers outcome after run causes firstOf misplaced cut kindOf fields f
     rawCentre rawLinear rawSquare rawPair pairs remainder inexactAt roundedRadius dot bilinear round exact inexact independentSum tiedSum
     renumbered joined union insertIdentifier align disturb reduce finish dropUnused foldGenerators foldTerms foldHigh dropZeroGenerators
     dropZeroTerms collectTerms insert collectInto those foldAll foldVector shift growth foldTimes foldSmallest smallest size keepAt longer
-    even half halfSize box lowEnd highEnd least lowAlong safe
+    even half halfSize box lowEnd highEnd least greatest lowAlong safe
 two-coordinates = (refl, refl)

@@ -11,7 +11,7 @@ use lib.ListN.{length, getD}
 use Rattle.whole.specs.Tab.{all}
 use Rattle.rational.specs.Sum.{All, All-imp}
 use Rattle.model.specs.Set.{Term}
-use Rattle.model.specs.Valid.{less, greater, order, constant, occurs}
+use Rattle.model.specs.Valid.{less, greater, order, factorless, occurs}
 use Rattle.model.specs.Finish.{keepAt}
 use Rattle.model.proofs.Lists.{Sublist, empty, keep, skip}
 use Rattle.model.proofs.Tests.{either}
@@ -44,12 +44,12 @@ module _ (p : ℕ → Bool) where
   clear-later : {j x : ℕ} {xs : List ℕ} → Clear j (x ∷ xs) → Clear (j + 1) xs
   clear-later {j} c = record { clear = λ i e. c .clear (suc i) (ap p (omega arith) ∙ e) }
 
-  pub keep-constant : (j : ℕ) (xs : List ℕ) → Clear j xs → constant (keepAt p j xs) ≡ constant xs
+  pub keep-constant : (j : ℕ) (xs : List ℕ) → Clear j xs → factorless (keepAt p j xs) ≡ factorless xs
   unfolding keepAt all
   keep-constant j [] c = refl
   keep-constant j (x ∷ xs) c = go (p j) refl (keep-constant (j + 1) xs (clear-later c)) where
-    go : (b : Bool) → p j ≡ b → constant (keepAt p (j + 1) xs) ≡ constant xs
-        → constant (cond b (x ∷ keepAt p (j + 1) xs) (keepAt p (j + 1) xs)) ≡ (eqb x 0 && constant xs)
+    go : (b : Bool) → p j ≡ b → factorless (keepAt p (j + 1) xs) ≡ factorless xs
+        → factorless (cond b (x ∷ keepAt p (j + 1) xs) (keepAt p (j + 1) xs)) ≡ (eqb x 0 && factorless xs)
     go true e h = ap (λ c. eqb x 0 && c) h
     go false e h = h ∙ rw (clear-here c e)
 

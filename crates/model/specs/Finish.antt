@@ -74,8 +74,8 @@ pub record Folded (A : Type 0) : Type 0 where
   pub kept : List A
 
 -- whether an exponent is too large
-abbrev pub high : Term → Bool
-high t = any (λ e. ltb maxExponent e) (t .exponents)
+abbrev pub tooHigh : Term → Bool
+tooHigh t = any (λ e. ltb maxExponent e) (t .exponents)
 
 -- ---- the smallest first, of equals the later
 -- the size of a vector: the sum of weight times |number|, by place
@@ -177,7 +177,7 @@ dropZeroGenerators s = record {
 
 -- 3. terms with an exponent that is too large are folded
 unfoldable pub foldHigh : Zonotope → Zonotope
-foldHigh s = withTerms s (record { core = foldAll foldTerm (those high (s .terms)) (core s); kept = those (λ t. not (high t)) (s .terms) })
+foldHigh s = withTerms s (record { core = foldAll foldTerm (those tooHigh (s .terms)) (core s); kept = those (λ t. not (tooHigh t)) (s .terms) })
 
 -- 4. the smallest terms are folded until a limit is met, and then the smallest generators
 unfoldable pub foldTerms : List ℕ → ℕ → Zonotope → Zonotope

@@ -38,6 +38,15 @@ ofSecond first g =
     ∷ (8 if tooWide (g .set))
     ∷ []
 
+-- an unsafe region of `count` halfspaces in n coordinates, normals one after the other, for a check of a set: 4, 3, 5, 6
+abbrev pub ofRegion : ℕ → ℕ → List ℤ → List ℤ → Zonotope → List Cause
+ofRegion n count normals bounds s =
+    (4 if badDimension n || eqb count 0 || ltb maxHalfspaces count)
+    ∷ (3 if differs (length normals) (count * n) || differs (length bounds) count)
+    ∷ (5 if differs n (s .dimension))
+    ∷ (6 if any (beyond maxEntry) normals || any (beyond maxBound) bounds)
+    ∷ []
+
 -- ---- the calls: their causes, and what they give
 unfoldable pub examine : Given → Option ℕ
 examine g = firstOf (ofFirst g)
@@ -59,43 +68,59 @@ independentRefusal next g h =
     ∷ (10 if tooWide (independentSum standardWeights next (g .set) (h .set)))
     ∷ []))
 
--- radii for n coordinates
+-- radii for n coordinates, added to a set of this dimension: 4, 3, 5, 6
+abbrev pub ofRadii : ℕ → List ℕ → ℕ → List Cause
+ofRadii n radii dimension =
+    (4 if badDimension n)
+    ∷ (3 if differs (length radii) n)
+    ∷ (5 if differs n dimension)
+    ∷ (6 if any (ltb maxDisturbance) radii)
+    ∷ []
+
 unfoldable pub disturbRefusal : ℕ → List ℕ → Given → Option ℕ
 disturbRefusal n radii g =
-    firstOf (ofFirst g
-    ++ ((4 if badDimension n)
-    ∷ (3 if differs (length radii) n)
-    ∷ (5 if differs n (g .set .dimension))
-    ∷ (6 if any (ltb maxDisturbance) radii)
-    ∷ (10 if tooWide (disturb radii (g .set)))
-    ∷ []))
+    firstOf (ofFirst g ++ (ofRadii n radii (g .set .dimension) ++ ((10 if tooWide (disturb radii (g .set))) ∷ [])))
+
+-- a reduction's limits: 4
+abbrev pub ofLimits : ℕ → ℕ → List Cause
+ofLimits termLimit generatorLimit = (4 if ltb maxTerms termLimit || ltb maxGenerators generatorLimit) ∷ []
 
 unfoldable pub reduceRefusal : ℕ → ℕ → Given → Option ℕ
 reduceRefusal termLimit generatorLimit g =
     firstOf (ofFirst g
-    ++ ((4 if ltb maxTerms termLimit || ltb maxGenerators generatorLimit)
-    ∷ (10 if tooWide (reduce standardWeights termLimit generatorLimit (g .set)))
-    ∷ []))
+    ++ (ofLimits termLimit generatorLimit
+    ++ ((10 if tooWide (reduce standardWeights termLimit generatorLimit (g .set))) ∷ [])))
 
--- `count` halfspaces in n coordinates: normals one after the other, and their bounds
+-- a check of a set against a region
 unfoldable pub checkRefusal : ℕ → ℕ → List ℤ → List ℤ → Given → Option ℕ
-checkRefusal n count normals bounds g =
-    firstOf (ofFirst g
-    ++ ((4 if badDimension n || eqb count 0 || ltb maxHalfspaces count)
-    ∷ (3 if differs (length normals) (count * n) || differs (length bounds) count)
-    ∷ (5 if differs n (g .set .dimension))
-    ∷ (6 if any (beyond maxEntry) normals || any (beyond maxBound) bounds)
-    ∷ []))
+checkRefusal n count normals bounds g = firstOf (ofFirst g ++ ofRegion n count normals bounds (g .set))
+
+-- 4: a step's count of coordinates is out of limits
+abbrev pub badStepCounts : Step.Step → Bool
+badStepCounts p = badDimension (p .rows) || badDimension (p .columns)
+
+-- 3: a list of a step hasn't the length that the counts give
+abbrev pub badStepLengths : Step.Step → Bool
+badStepLengths p =
+    differs (length (p .constant)) (p .rows)
+    || differs (length (p .linear)) (p .rows * p .columns)
+    || differs (length (p .quadratic)) (p .rows * p .columns * p .columns)
+
+-- 6: an entry of a step is out of range
+abbrev pub badStepRange : Step.Step → Bool
+badStepRange p = any (beyond maxConstant) (p .constant) || any (beyond maxEntry) (p .linear) || any (beyond maxEntry) (p .quadratic)
+
+-- a step's own numbers, for a set of this dimension: 4, 3, 5, 6
+abbrev pub ofStep : Step.Step → ℕ → List Cause
+ofStep p dimension =
+    (4 if badStepCounts p)
+    ∷ (3 if badStepLengths p)
+    ∷ (5 if differs (p .columns) dimension)
+    ∷ (6 if badStepRange p)
+    ∷ []
 
 -- a step: 13 for a work slice that is too short comes before everything
 unfoldable pub stepRefusal : Bool → Step.Step → Given → Option ℕ
 stepRefusal short p g =
     firstOf ((13 if short) ∷ ofFirst g
-    ++ ((4 if badDimension (p .rows) || badDimension (p .columns))
-    ∷ (3 if differs (length (p .constant)) (p .rows)
-    || differs (length (p .linear)) (p .rows * p .columns)
-    || differs (length (p .quadratic)) (p .rows * p .columns * p .columns))
-    ∷ (5 if differs (p .columns) (g .set .dimension))
-    ∷ (6 if any (beyond maxConstant) (p .constant) || any (beyond maxEntry) (p .linear) || any (beyond maxEntry) (p .quadratic))
-    ∷ (10 if tooWide (Step.step standardWeights p (g .set)))
-    ∷ []))
+    ++ (ofStep p (g .set .dimension) ++ ((10 if tooWide (Step.step standardWeights p (g .set))) ∷ [])))

@@ -84,8 +84,10 @@ least true (pos n) = pos 0
 least true (negsuc n) = negsuc n
 least false g = negℤ (pos (natAbs g))
 
-abbrev pub greatest : Bool → ℤ → ℤ
-greatest b g = negℤ (least b (negℤ g))
+unfoldable pub greatest : Bool → ℤ → ℤ
+greatest true (pos n) = pos n
+greatest true (negsuc n) = pos 0
+greatest false g = pos (natAbs g)
 
 -- the ends of a linear function of the set's points, which is `value` at a vector and lets the radii contribute up to `wide`
 module _ (value : List ℤ → ℤ) (wide : ℕ) (s : Zonotope) where

@@ -78,14 +78,14 @@ module _ (p : Step) (s : Zonotope) where
   abbrev pub slope : ℕ → ℕ → ℤ
   slope i j = pos 4096 *ℤ linearAt p i j +ℤ uptoℤ (λ l. (quadraticAt p i j l +ℤ quadraticAt p i l j) *ℤ at (s .centre) l) (p .columns)
 
-  abbrev pub independent : ℕ → ℕ
-  independent j = generatorSizes s j + radius s j
+  abbrev pub independentSize : ℕ → ℕ
+  independentSize j = generatorSizes s j + radius s j
 
   unfoldable pub remainder : ℕ → ℕ
   remainder i =
       uptoℕ (λ j. natAbs (slope i j) * radius s j) (p .columns)
       + uptoℕ (λ j. uptoℕ (λ l. natAbs (quadraticAt p i j l)
-      * (termSizes s j * independent l + independent j * termSizes s l + independent j * independent l)) (p .columns)) (p .columns)
+      * (termSizes s j * independentSize l + independentSize j * termSizes s l + independentSize j * independentSize l)) (p .columns)) (p .columns)
 
   -- the image in raw units
   unfoldable pub raw : Zonotope

@@ -39,8 +39,8 @@ abbrev pub zeros : List ℤ → Bool
 zeros v = all isZero v
 
 -- a monomial without factors
-abbrev pub constant : List ℕ → Bool
-constant e = all (λ k. eqb k 0) e
+abbrev pub factorless : List ℕ → Bool
+factorless e = all (λ k. eqb k 0) e
 
 -- whether the factor at place j occurs in some term
 abbrev pub occurs : List Term → ℕ → Bool
@@ -67,7 +67,7 @@ unfoldable pub badOrder : Zonotope → Bool
 badOrder s =
     not (rises ltb (s .identifiers))
     || not (rises (λ t u. isLess (order (t .exponents) (u .exponents))) (s .terms))
-    || any (λ t. constant (t .exponents) || zeros (t .coefficients)) (s .terms)
+    || any (λ t. factorless (t .exponents) || zeros (t .coefficients)) (s .terms)
     || any zeros (s .generators)
     || not (all (occurs (s .terms)) (tab (length (s .identifiers)) (λ j. j)))
 

@@ -22,7 +22,7 @@ pub record Bounded (K n : ℕ) (c : List ℤ) : Type 0 where
   pub bounded : (x : ℕ) → x < n → natAbs (at c x) ≤ K
 
 -- the places from n on are as they were
-pub record Kept {X : Type 0} (d : X) (n : ℕ) (before after : List X) : Type 0 where
+pub record KeptFrom {X : Type 0} (d : X) (n : ℕ) (before after : List X) : Type 0 where
   pub place : (x : ℕ) → n ≤ x → getD after x d ≡ getD before x d
 
 pub term-same : {a b : List ℕ} {c d : List ℤ} → a ≡ b → c ≡ d
@@ -58,7 +58,7 @@ module _ (e : List ℕ) (w : List ℤ) (n : ℕ) (G : ℕ → ℕ) (F : ℕ → 
       (tab-cong 6 _ _ (λ j l. first-at w F (pos 0) (n * 6) (t * 6 + j) (omega arith) lw)))
 
 -- ---- what a run of places that is written keeps and bounds
-pub kept-after : {X : Type 0} (d : X) (ws : List X) (at : ℕ) (f : ℕ → X) (n : ℕ) → Kept d (at + n) ws (write ws at f n)
+pub kept-after : {X : Type 0} (d : X) (ws : List X) (at : ℕ) (f : ℕ → X) (n : ℕ) → KeptFrom d (at + n) ws (write ws at f n)
 kept-after d ws at f n = record { place = λ x h. write-after ws at f d n x h }
 
 pub small-bounded : {K : ℕ} {c : List ℤ} (n : ℕ) → Small K c → Bounded K n c

@@ -22,7 +22,7 @@ use Rattle.zonotope.specs.declared.PolyZonotope.{PolyZonotope}
 use Rattle.forms.specs.Dot.{upto-zero}
 use Rattle.forms.specs.Tables.{rowOf}
 use Rattle.raw.specs.Sums.{sum-tab, upto-has}
-use Rattle.raw.specs.Accepted.{Accepted, Sized}
+use Rattle.raw.specs.Accepted.{InSpan, RowsSized}
 use Rattle.raw.specs.Unused.{termAt, generatorAt, counts-in, no-exponents, no-coefficients, no-vectors}
 use Rattle.raw.specs.Unused.{centre-row, exponent-row, coefficient-row, generator-row}
 
@@ -44,7 +44,7 @@ small-rows K xs n l h = record { small = λ x. go x (decLt x (n * 6)) }
         rw e at (h (x / 6) (x % 6) (omega arith) (omega arith))
     go x (no p) = rw (List·getD-eq-default xs (pos 0) {n = x} (omega arith)) (omega arith)
 
-module _ (s : PolyZonotope) (ok : Accepted s) where
+module _ (s : PolyZonotope) (ok : InSpan s) where
   -- the sums that S is made of
   pub term-sizes : (j : ℕ) → j < 6 → rowSizes (s .coefficients) (s .terms) j ≡ termSizes (view s) j
   unfolding termSizes view
@@ -112,7 +112,7 @@ module _ (s : PolyZonotope) (ok : Accepted s) where
           let e : (t * 12 + k) / 12 ≡ t = omega arith in
           rw (no-exponents s ok (t * 12 + k) (omega arith) (omega arith)) (omega arith)
 
-  module _ (sized : Sized s) where
+  module _ (sized : RowsSized s) where
     pub exponents-low : Low (s .exponents)
     exponents-low = record { low = λ x. go x (decLt x 480) }
       where

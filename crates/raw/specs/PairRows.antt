@@ -17,7 +17,7 @@ use Rattle.model.specs.Set.{Term}
 use Rattle.model.specs.Step.{dot}
 use Rattle.forms.specs.Tables.{rowOf}
 use Rattle.forms.specs.Numbers.{rawLimit, tableLimit, product-small}
-use Rattle.raw.specs.Append.{Bounded, Kept, rows-more, kept-after, bounded-more}
+use Rattle.raw.specs.Append.{Bounded, KeptFrom, rows-more, kept-after, bounded-more}
 use Rattle.raw.specs.Pairs.{used, used-taken, used-left, used-end}
 
 -- ---- a pair's row
@@ -81,8 +81,8 @@ module _ (columns coefficients : List ℤ) (exponents : List ℕ) (h : ℕ) (e�
     pub numbers : Bounded rawLimit (r * 6) w
     pub long-exponents : length e ≡ length e₀
     pub long-numbers : length w ≡ length w₀
-    pub later-exponents : Kept 0 (r * 12) e₀ e
-    pub later-numbers : Kept (pos 0) (r * 6) w₀ w
+    pub later-exponents : KeptFrom 0 (r * 12) e₀ e
+    pub later-numbers : KeptFrom (pos 0) (r * 6) w₀ w
 
   -- what stands in the end
   pub record Added (r : ℕ) (e : List ℕ) (w : List ℤ) : Type 0 where
@@ -90,8 +90,8 @@ module _ (columns coefficients : List ℤ) (exponents : List ℕ) (h : ℕ) (e�
     pub inside : r ≤ h + 820
     pub rows : rowsOf e w r ≡ allRows
     pub numbers : Bounded rawLimit (r * 6) w
-    pub later-exponents : Kept 0 (r * 12) e₀ e
-    pub later-numbers : Kept (pos 0) (r * 6) w₀ w
+    pub later-exponents : KeptFrom 0 (r * 12) e₀ e
+    pub later-numbers : KeptFrom (pos 0) (r * 6) w₀ w
 
   pub taken-none : Bounded rawLimit (h * 6) w₀ → Taken 0 h e₀ w₀
   taken-none b = record {

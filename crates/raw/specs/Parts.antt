@@ -24,7 +24,7 @@ use Rattle.forms.specs.Tables.{rowOf, tab-small}
 use Rattle.forms.specs.Filling.{first-at}
 use Rattle.forms.specs.Numbers.{six, lineTable, tableLimit, roundLimit, product-small, term-number, centre-number}
 use Rattle.raw.specs.Zeros.{zeros-at}
-use Rattle.raw.specs.Accepted.{Accepted}
+use Rattle.raw.specs.Accepted.{InSpan}
 use Rattle.raw.specs.Unused.{generatorAt, counts-in, centre-row, generator-row}
 use Rattle.raw.specs.PairRows.{half-small}
 
@@ -81,7 +81,7 @@ module _ (a lines k : List ℤ) (ha : Small 32768 a) (hl : Small tableLimit line
             (centreHalf a lines k i) 2595762235225669632 half-room,
       )
 
-module _ (c a q : List ℤ) (s : PolyZonotope) (ok : Accepted s) where
+module _ (c a q : List ℤ) (s : PolyZonotope) (ok : InSpan s) where
   centre-from : tab 6 (centreNumber c a (lineTable a q (s .centre)) (s .centre)) ≡ tab 6 (rawCentre (six c a q) (view s))
   unfolding centreNumber
   centre-from =
@@ -148,7 +148,7 @@ module _ (c a q : List ℤ) (s : PolyZonotope) (ok : Accepted s) where
       go x (no p) = rw (write-after ws 0 F (pos 0) (s .generators * 6) x (omega arith), none x) (omega arith)
 
 -- the lines as the code holds them, and an array of zeros that is written
-pub raw-generators : (a q : List ℤ) (s : PolyZonotope) → Accepted s → Small 1048576 (s .vectors) →
+pub raw-generators : (a q : List ℤ) (s : PolyZonotope) → InSpan s → Small 1048576 (s .vectors) →
     Small tableLimit (lineTable a q (s .centre))
     → (lines ws w : List ℤ) → lines ≡ lineTable a q (s .centre) → length ws ≡ 144 → T (zeros ws)
     → w ≡ write ws 0 (λ x. dot 6 (rowOf (s .vectors) (x / 6)) (rowOf lines (x % 6))) (s .generators * 6) → RawGenerators a q s w

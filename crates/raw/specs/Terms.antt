@@ -17,9 +17,9 @@ use Rattle.zonotope.specs.declared.PolyZonotope.{PolyZonotope}
 use Rattle.forms.specs.Tables.{rowOf}
 use Rattle.forms.specs.Filling.{first-at}
 use Rattle.forms.specs.Numbers.{six, lineTable, columnTable, tableLimit, rawLimit, product-small, term-number, pair-number, square-number}
-use Rattle.raw.specs.Accepted.{Accepted}
+use Rattle.raw.specs.Accepted.{InSpan}
 use Rattle.raw.specs.Unused.{termAt, counts-in, centre-row, exponent-row, coefficient-row}
-use Rattle.raw.specs.Append.{wideTerm, Bounded, Kept, term-same, rows-first, kept-after}
+use Rattle.raw.specs.Append.{wideTerm, Bounded, KeptFrom, term-same, rows-first, kept-after}
 use Rattle.raw.specs.Pairs.{used}
 use Rattle.raw.specs.PairOrder.{pairs-used}
 use Rattle.raw.specs.PairRows.{pairNumber, pairExponent, pairRow, number-square, number-pair, Added}
@@ -29,8 +29,8 @@ pub record RawTerms (a q : List ℤ) (s : PolyZonotope) (e₀ : List ℕ) (w₀ 
   pub inside : r ≤ 860
   pub rows : (c : List ℤ) → rowsOf e w r ≡ map wideTerm (raw (six c a q) (view s) .terms)
   pub numbers : Bounded rawLimit (r * 6) w
-  pub later-exponents : Kept 0 (r * 12) e₀ e
-  pub later-numbers : Kept (pos 0) (r * 6) w₀ w
+  pub later-exponents : KeptFrom 0 (r * 12) e₀ e
+  pub later-numbers : KeptFrom (pos 0) (r * 6) w₀ w
 
 -- a sum of exponents is that of its places
 longer-at : (u v : List ℕ) (k : ℕ) → getD (longer _+_ u v) k 0 ≡ getD u k 0 + getD v k 0
@@ -40,7 +40,7 @@ longer-at (x ∷ xs) [] k = sym (add-zero (getD (x ∷ xs) k 0))
 longer-at (x ∷ xs) (y ∷ ys) zero = refl
 longer-at (x ∷ xs) (y ∷ ys) (suc k) = longer-at xs ys k
 
-module _ (a q : List ℤ) (s : PolyZonotope) (ok : Accepted s) (c : List ℤ) where
+module _ (a q : List ℤ) (s : PolyZonotope) (ok : InSpan s) (c : List ℤ) where
   abbrev P : Step
   P = six c a q
 
@@ -138,7 +138,7 @@ module _ (a q : List ℤ) (s : PolyZonotope) (ok : Accepted s) (c : List ℤ) wh
 abbrev pub ownNumber : List ℤ → List ℤ → PolyZonotope → ℕ → ℤ
 ownNumber a q s x = dot 6 (rowOf (s .coefficients) (x / 6)) (rowOf (lineTable a q (s .centre)) (x % 6))
 
-pub own-bounded : (a q : List ℤ) (s : PolyZonotope) → Accepted s → (w₀ w₁ : List ℤ) → 5160 ≤ length w₀ → w₁ ≡
+pub own-bounded : (a q : List ℤ) (s : PolyZonotope) → InSpan s → (w₀ w₁ : List ℤ) → 5160 ≤ length w₀ → w₁ ≡
     write w₀ 0 (ownNumber a q s) (s .terms * 6)
     → Small 1048576 (s .coefficients) → Small tableLimit (lineTable a q (s .centre)) → Bounded rawLimit (s .terms * 6) w₁
 own-bounded a q s ok w₀ w₁ lw numbers hc hl = rw numbers (record {
@@ -147,7 +147,7 @@ own-bounded a q s ok w₀ w₁ lw numbers hc hl = rw numbers (record {
       (product-small (s .coefficients) (lineTable a q (s .centre)) hc hl (x / 6) (x % 6));
 })
 
-module _ (a q : List ℤ) (s : PolyZonotope) (ok : Accepted s) (e₀ e₁ e : List ℕ) (w₀ w₁ w : List ℤ) (r : ℕ)
+module _ (a q : List ℤ) (s : PolyZonotope) (ok : InSpan s) (e₀ e₁ e : List ℕ) (w₀ w₁ w : List ℤ) (r : ℕ)
     (le : 10320 ≤ length e₀) (lw : 5160 ≤ length w₀)
     (exponents : e₁ ≡ write e₀ 0 (λ x. getD (s .exponents) x 0) (s .terms * 12))
     (numbers : w₁ ≡ write w₀ 0 (ownNumber a q s) (s .terms * 6)) where

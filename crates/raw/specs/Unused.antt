@@ -21,7 +21,7 @@ use Rattle.zonotope.specs.Record.{view, spare}
 use Rattle.zonotope.specs.declared.PolyZonotope.{PolyZonotope}
 use Rattle.forms.specs.Tables.{rowOf}
 use Rattle.raw.specs.Tests.{free, no-row, no-column}
-use Rattle.raw.specs.Accepted.{Accepted}
+use Rattle.raw.specs.Accepted.{InSpan}
 
 -- term t of a record
 abbrev pub termAt : PolyZonotope → ℕ → Term
@@ -58,7 +58,7 @@ same-row d f n w h j l = go (decLt j n)
     go (yes p) = sym (getD-tab n f d j p)
     go (no p) = h j l (omega arith) ∙ sym (getD-tab-past n f d j (omega arith))
 
-module _ (s : PolyZonotope) (ok : Accepted s) where
+module _ (s : PolyZonotope) (ok : InSpan s) where
   pub counts-in : (s .dimension ≤ 6) × (s .factors ≤ 12) × (s .terms ≤ 40) × (s .generators ≤ 24)
   unfolding badCounts view
   counts-in =

@@ -4,14 +4,14 @@ ghost use Prim.Native.Nat.{_<_};
 ghost use Rattle.whole.specs.Tab.{tab};
 ghost use Rattle.rows.specs.Rows.{Small};
 ghost use Rattle.forms.specs.Numbers.{tableLimit};
-ghost use Rattle.raw.specs.Accepted.{Accepted};
+ghost use Rattle.raw.specs.Accepted.{InSpan};
 ghost use Rattle.raw.specs.Parts.{centreNumber, RawCentre, RawGenerators};
 use crate::terms;
 use zonotope::PolyZonotope;
 
 // The raw centre of the image of s.
 pub fn centre(c: &[i32; 6], a: &[i32; 36], q: &[i32; 216], s: PolyZonotope) -> [i64; 6]
-    requires { ⌜ Small 1048576 (now c) × Small 32768 (now a) × Small 32768 (now q) × Accepted s ⌝ }
+    requires { ⌜ Small 1048576 (now c) × Small 32768 (now a) × Small 32768 (now q) × InSpan s ⌝ }
     ensures { λ r. ⌜ RawCentre (now (c .entry)) (now (a .entry)) (now (q .entry)) s r ⌝ }
 {
     let k = s.centre;
@@ -21,7 +21,7 @@ pub fn centre(c: &[i32; 6], a: &[i32; 36], q: &[i32; 216], s: PolyZonotope) -> [
 
 // The raw generators of the image of s, in rows of six.
 pub fn generators(a: &[i32; 36], q: &[i32; 216], s: PolyZonotope) -> [i64; 144]
-    requires { ⌜ Small 32768 (now a) × Small 32768 (now q) × Accepted s ⌝ }
+    requires { ⌜ Small 32768 (now a) × Small 32768 (now q) × InSpan s ⌝ }
     ensures { λ r. ⌜ RawGenerators (now (a .entry)) (now (q .entry)) s r ⌝ }
 {
     let k = s.centre;

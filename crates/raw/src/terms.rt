@@ -8,7 +8,7 @@ ghost use Rattle.model.specs.Pairs.{pairCodes};
 ghost use Rattle.model.specs.Step.{dot};
 ghost use Rattle.forms.specs.Tables.{rowOf};
 ghost use Rattle.forms.specs.Numbers.{tableLimit, rawLimit};
-ghost use Rattle.raw.specs.Accepted.{Accepted};
+ghost use Rattle.raw.specs.Accepted.{InSpan};
 ghost use Rattle.raw.specs.Limits.{Low};
 ghost use Rattle.raw.specs.Append.{Bounded};
 ghost use Rattle.raw.specs.PairRows.{pairNumber, pairExponent, Added};
@@ -37,7 +37,7 @@ pub fn all_rows(
     q: &[i32; 216],
     s: PolyZonotope,
 ) -> usize
-    requires { ⌜ (5160 ≤ length (now w)) × (10320 ≤ length (now e)) × Small 32768 (now a) × Small 32768 (now q) × Accepted s ⌝ }
+    requires { ⌜ (5160 ≤ length (now w)) × (10320 ≤ length (now e)) × Small 32768 (now a) × Small 32768 (now q) × InSpan s ⌝ }
     ensures { λ r. ⌜ RawTerms (now (a .entry)) (now (q .entry)) s (now (e .entry)) (now (w .entry)) r (now (e .exit)) (now (w .exit)) ⌝ }
 {
     let centre = s.centre;

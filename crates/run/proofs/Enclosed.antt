@@ -30,7 +30,7 @@ use Rattle.run.proofs.Reached.{fielded-is}
 use Rattle.run.proofs.Accepts.{accepts-is, inside-is, safe-is}
 
 -- what a call with the record of u returns
-abbrev given : ℕ → Model.State → List ℕ → Fielded
+abbrev pub given : ℕ → Model.State → List ℕ → Fielded
 given place u f = record { answer = answerOf (answer place u f) (length f); state = recordOf (after u f) }
 
 -- the box of the definitions is the one that stands in the answer
@@ -56,7 +56,7 @@ counts u f = go (u .over) (refusal u f)
     go false (some n) t = absurd t
 
 -- the motion beside the record of its state
-abbrev alongside : Motion.Moment → Moment
+abbrev pub alongside : Motion.Moment → Moment
 alongside now = record { state = recordOf (now .state); mark = now .mark; values = now .values; position = now .position }
 
 module _ (p : Picks) (m place : ℕ) (now : Motion.Moment) (s : Sound (now .state)) (f : List ℕ) where
@@ -79,7 +79,7 @@ module _ (p : Picks) (m place : ℕ) (now : Motion.Moment) (s : Sound (now .stat
       go x y e = rw e
 
   -- what holds of the definitions holds of the records
-  kept : T (accepted (now .state) f) → Motion.Kept (now .state) f (Motion.follow p m now f)
+  pub kept : T (accepted (now .state) f) → Motion.Kept (now .state) f (Motion.follow p m now f)
       → Kept f (given place (now .state) f) (alongside (Motion.follow p m now f))
   unfolding Motion.follow answerOf pack
   kept t k =

@@ -1,6 +1,7 @@
 -- Demand 3 of the records that are returned: for every list of fields given to `field` one after the other from `begin()`, every motion, after
 -- each accepted field, is a point of the set in the returned record at its own values and inside the box in the returned answer, and where the
--- answer says safe not in the unsafe region. The theorem is `enclosed`, in proofs/Enclosed.antt.
+-- answer says safe not in the unsafe region. The theorem is `enclosed`, in proofs/Enclosed.antt; that for a whole input given to `run` is
+-- `run-enclosed`, in proofs/RunEnclosed.antt.
 use mathlib.Core.Path.{_≡_}
 use mathlib.Core.List.{List, [], _∷_, map}
 use mathlib.Core.Bool.{Bool, false, cond}
@@ -11,8 +12,10 @@ use lib.IntN.{pos}
 use Rattle.rational.specs.Rational.{ι, 0ℚ, _≤ℚ_}
 use Rattle.model.specs.Limits.{firstFresh}
 use Rattle.model.specs.Body.{dimension, givenHalfspaces}
-use Rattle.model.specs.Run.{tag, body, kindOf, firstField}
+use Rattle.model.specs.Run as Model
+use Rattle.model.specs.Run.{begin, tag, body, kindOf, after, fields, firstField}
 use Rattle.model.specs.Points.{Vector, Point}
+use Rattle.model.specs.Motion as Motion
 use Rattle.model.specs.Motion.{Picks, Allowed, move, valuesAfter, markAfter, Unsafe}
 use Rattle.zonotope.specs.Record.{view}
 use Rattle.states.specs.declared.State.{State}
@@ -23,6 +26,7 @@ use Rattle.states.specs.declared.Fielded.{Fielded}
 use Rattle.states.specs.State.{beginning}
 use Rattle.states.specs.Answer.{accepts}
 use Rattle.run.specs.Field.{fielded}
+use Rattle.run.specs.Whole.{ranOf}
 
 -- a motion beside the state that the last call returned; the mark is the motion's own count of the accepted bodies
 pub record Moment : Type 0 where
@@ -69,3 +73,26 @@ Always p places m now (rest ∷ rests) =
 -- demand 3, for every list of inputs of which the first fields are taken, whatever bytes they hold, and every motion inside its limits
 abbrev pub Enclosed : Type 0
 Enclosed = (rests : List (List ℕ)) (places : ℕ → ℕ) (p : Picks) → Allowed p (map firstField rests) → Always p places 0 (begun p) rests
+
+-- ---- a whole input given to `run`
+-- the motion after all fields of a list
+unfoldable pub followAll : Picks → ℕ → Motion.Moment → List (List ℕ) → Motion.Moment
+followAll p m now [] = now
+followAll p m now (f ∷ fs) = followAll p (suc m) (Motion.follow p m now f) fs
+
+-- the last field that is looked at, of a list after f
+unfoldable pub lastField : Model.State → List ℕ → List (List ℕ) → List ℕ
+lastField u f [] = f
+lastField u f (g ∷ gs) = cond (u .over) f (lastField (after u g) g gs)
+
+-- what holds of the state, the last answer and the last field, where the motion has come this far
+pub record KeptAtEnd (f : List ℕ) (st : State) (last : Answer) (now : Motion.Moment) : Type 0 where
+  pub in-set : 0 < st .count → Point (view (st .set)) (now .values) (now .position)
+  pub in-box : last .outcome ≡ Inside → InEnds (st .set .dimension) (now .position) last
+  pub not-unsafe : last .outcome ≡ Safe → ¬ (Unsafe (givenHalfspaces (body f)) (dimension (body f)) (now .position))
+
+-- demand 3 of the last answer and state, for every input and every motion inside its limits
+abbrev pub RunEnclosed : Type 0
+RunEnclosed = (input : List ℕ) (p : Picks) → Allowed p (fields input)
+    → let r = ranOf false input in
+    KeptAtEnd (lastField begin [] (fields input)) (r .state) (r .last) (followAll p 0 (Motion.beginning p) (fields input))

@@ -1,6 +1,6 @@
 -- Which of n places are marked: those of the smallest elements until a limit is met, or those that pass a test; and what is left then.
 use mathlib.Core.List.{List, _∷_, map, map-id}
-use mathlib.Core.Bool.{Bool, not}
+use mathlib.Core.Bool.{Bool, false, not}
 use mathlib.Core.Path.{_≡_, refl, sym, ap, ap₂, _∙_}
 use Prim.Native.Nat.{ℕ, suc, _+_, _-_, _<_, _≤_}
 use native.Mathlib.Omega.{arith}
@@ -106,6 +106,13 @@ those-parted {A} p fold t n k gone h =
     ∙ folds-map t fold (chosen (at gone) n) k)
     (those-tab (λ a. not (p a)) n t
     ∙ ap (map t) (sym (chosen-cong (unmarked gone) (λ i. not (p (t i))) n (λ i l. ap not (h i l)))))
+
+-- where none passes, none is folded
+pub none-folded : {A : Type 0} (p : A → Bool) (fold : A → Core → Core) (k : Core) {l : List A} → All (λ a. p a ≡ false) l →
+    foldAll fold (those p l) k ≡ k
+unfolding those foldAll
+none-folded p fold k none = refl
+none-folded p fold k (more h t) = rw h (none-folded p fold k t)
 
 -- the bar that was found in a list of the sizes
 pub selected-by : (z : List ℕ) (f : ℕ → ℕ) (limit n T q : ℕ) (gone : List Bool) → ((k : ℕ) → k < n → sizeAt z k ≡ f k) →

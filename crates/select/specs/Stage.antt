@@ -4,20 +4,23 @@ use mathlib.Core.Bool.{Bool, true, false, not}
 use mathlib.Core.Path.{_≡_, refl, sym, ap, ap₂, _∙_}
 use Prim.Native.Nat.{ℕ, zero, suc, _+_, _*_, _^_, _<_, _≤_}
 use native.Mathlib.Omega.{arith}
-use lib.Dec.{ltb, lit≤}
+use lib.Dec.{ltb}
 use lib.ListN.{length, getD}
 use lib.IntN.{ℤ}
 use Rattle.whole.specs.Tab.{tab, any}
-use Rattle.model.specs.Limits.{maxExponent, standardWeights}
+use Rattle.model.specs.Limits.{maxExponent}
 use Rattle.model.specs.Set.{Term}
-use Rattle.model.specs.Finish.{Core, Folded, those, allEven, high, size, foldVector, foldTerm, foldAll, foldUntil}
+use Rattle.model.specs.Finish.{Core, Folded, those, allEven, tooHigh, size, foldVector, foldTerm, foldAll, foldUntil}
+use Rattle.whole.specs.Tests.{any-found, any-none}
+use Rattle.model.proofs.Tests.{any-false}
+use Rattle.model.proofs.FoldsNothing.{all-pass}
 use Rattle.model.proofs.FoldOrder.{term-swap}
 use Rattle.model.proofs.FirstBySize.{termSize}
 use Rattle.rows.specs.Rows.{exponentRow, numberRow, termOf, terms, Places, Small}
 use Rattle.fold.specs.Chosen.{chosen}
 use Rattle.fold.specs.Marks.{at, unmarked}
 use Rattle.fold.specs.Folding.{Under, coreOf, Folding, folded-as, small-mono, under-mono}
-use Rattle.select.specs.Selected.{Selected, parted, until-parted, those-parted, few-left, left-within}
+use Rattle.select.specs.Selected.{Selected, parted, until-parted, those-parted, none-folded, few-left, left-within}
 
 -- a test of a row of exponents: whether all are even, or else whether one is too large
 abbrev pub test : Bool → List ℕ → Bool
@@ -94,7 +97,7 @@ pub record GeneratorsPassed (g : List ℤ) (n m : ℕ) (c₀ c : List ℤ) (r₀
 
 -- the terms without an exponent that is too large, and the core that makes up for the others
 abbrev pub withoutHigh : Core → List Term → Folded Term
-withoutHigh k ts = record { core = foldAll foldTerm (those high ts) k; kept = those (λ t. not (high t)) ts }
+withoutHigh k ts = record { core = foldAll foldTerm (those tooHigh ts) k; kept = those (λ t. not (tooHigh t)) ts }
 
 -- what is left is ready for the next stage
 pub ready-after : {e h h′ : List ℕ} {s s′ : List ℤ} {n m : ℕ} → Ready e h s n → m ≤ n → length h′ ≡ length h → length s′ ≡ length s →
@@ -111,11 +114,26 @@ pub passed-as : {e h : List ℕ} {s : List ℤ} {n m : ℕ} {c₀ c : List ℤ} 
 passed-as v e = record { is = v .is ∙ e; fewer = v .fewer; ready = v .ready; bounded = v .bounded }
 
 -- ---- the stages of terms
+module _ (e heads : List ℕ) (s : List ℤ) (n : ℕ) where
+  -- some exponent is too large, or none is
+  pub high-found : (i : ℕ) → i < n → test false (exponentRow e (getD heads i 0)) ≡ true → any tooHigh (terms e heads s n) ≡ true
+  unfolding terms
+  high-found i h g = any-found tooHigh n (termAt e heads s) i h g
+
+  pub high-none : ((i : ℕ) → i < n → test false (exponentRow e (getD heads i 0)) ≡ false) → any tooHigh (terms e heads s n) ≡ false
+  unfolding terms
+  high-none g = any-none tooHigh n (termAt e heads s) g
+
+pub all-low : (k : Core) (ts : List Term) → any tooHigh ts ≡ false → record { core = k; kept = ts } ≡ withoutHigh k ts
+all-low k ts h =
+    let low = any-false tooHigh ts h in
+    sym (ap₂ (λ (c : Core) (l : List Term). record { core = c; kept = l }) (none-folded tooHigh foldTerm k low) (all-pass tooHigh low))
+
 module _ (e heads : List ℕ) (s : List ℤ) (n : ℕ) (k : Core) where
   pub high-parted : (gone : List Bool) → ((i : ℕ) → i < n → at gone i ≡ test false (exponentRow e (getD heads i 0))) →
       parted foldTerm (termAt e heads s) n gone k ≡ withoutHigh k (terms e heads s n)
   unfolding terms
-  high-parted gone h = sym (those-parted high foldTerm (termAt e heads s) n k gone h)
+  high-parted gone h = sym (those-parted tooHigh foldTerm (termAt e heads s) n k gone h)
 
   module _ (weights : List ℕ) (limit : ℕ) where
     pub terms-parted : {gone : List Bool} → Selected (λ i. size weights (numberRow s i)) limit n gone →
@@ -132,17 +150,3 @@ module _ (e heads : List ℕ) (s : List ℤ) (n : ℕ) (k : Core) where
         record { core = c; kept = terms e heads′ s′ m } ≡ foldUntil (termSize weights) foldTerm limit k (terms e heads s n) → m ≤ limit
     unfolding terms
     terms-within heads′ s′ m p = left-within (termSize weights) foldTerm term-swap limit k (terms e heads s n) m (termAt e heads′ s′) p
-
--- ---- the weights that document 01 fixes are small
-under-cons : {b x : ℕ} {xs : List ℕ} → x ≤ b → Under b xs → Under b (x ∷ xs)
-under-cons {b} {x} {xs} h v = record { under = go }
-  where
-    go : (i : ℕ) → getD (x ∷ xs) i 0 ≤ b
-    go zero = h
-    go (suc i) = v .under i
-
-pub standard-small : Under 1000 standardWeights
-standard-small =
-    let four : 4 ≤ 1000 = lit≤ tt in
-    let one : 1 ≤ 1000 = lit≤ tt in
-    under-cons four (under-cons one (under-cons four (under-cons one (under-cons four (under-cons one (record { under = λ i. lit≤ tt }))))))

@@ -18,7 +18,6 @@ use Rattle.model.proofs.Tests.{false-any}
 use Rattle.model.proofs.Shape as Shape
 use Rattle.model.proofs.Sound.{Sound, next-in}
 use Rattle.zonotope.specs.Record.{view, pack, spare, given}
-use Rattle.zonotope.specs.Shape.{Shaped}
 use Rattle.zonotope.proofs.ViewPack.{view-pack, spare-pack}
 use Rattle.states.specs.declared.State.{State}
 use Rattle.states.specs.State.{viewed, recordOf, left}
@@ -26,22 +25,14 @@ use Rattle.states.specs.Answer.{answerOf}
 use Rattle.states.specs.Taken.{taken}
 
 -- ---- the record of a valid set
-shaped : {m : Zonotope} → Shape.Shaped m → Shaped m
-shaped s = record {
-  centre = s .centre-long;
-  terms = All-imp (λ t r. record { exponents = r .exponents-long; coefficients = r .coefficients-long }) (s .rows);
-  generators = s .generators-long;
-  radii = s .radii-long;
-}
-
 module _ {m : Zonotope} (v : Shape.Valid recordIdentifiers m) where
   -- means that set
   pub means : view (pack m) ≡ m
-  means = view-pack m (shaped (v .shaped)) (v .counts)
+  means = view-pack m (v .shaped) (v .counts)
 
   -- has no spare place
   pub no-spare : spare (pack m) ≡ false
-  no-spare = spare-pack m (shaped (v .shaped))
+  no-spare = spare-pack m (v .shaped)
 
   -- and passes every test of a given set
   pub passes : firstOf (ofFirst (given (pack m))) ≡ none

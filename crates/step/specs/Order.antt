@@ -2,7 +2,7 @@
 use mathlib.Core.Path.{_≡_, refl, sym, ap, _∙_}
 use mathlib.Core.List.{List, [], _∷_, _++_}
 use mathlib.Core.Option.{Option, none, some}
-use mathlib.Core.Bool.{Bool, true, false, not, cond, _||_, true≢false}
+use mathlib.Core.Bool.{Bool, true, false, not, cond, true≢false}
 use Prim.Native.Nat.{ℕ, _≤_}
 use borrow.Author.Tests.{ltb-false, not-true}
 use lib.Dec.{ltb, eqb}
@@ -11,38 +11,46 @@ use Rattle.model.specs.Limits.{standardWeights}
 use Rattle.model.specs.Valid.{tooWide}
 use Rattle.model.specs.Step as Step
 use Rattle.model.specs.Step.{Step}
-use Rattle.model.specs.Field.{differs}
 use Rattle.model.specs.Run.{Cause, _if_, firstOf}
-use Rattle.model.specs.Library.{Given, ofFirst, examine, stepRefusal}
+use Rattle.model.specs.Library.{Given, ofFirst, ofStep, examine, stepRefusal}
 use Rattle.model.proofs.Tests.{and-true}
 use Rattle.zonotope.specs.declared.PolyZonotope.{PolyZonotope}
 use Rattle.zonotope.specs.declared.Examined.{Examined}
+use Rattle.zonotope.specs.declared.Examined.the-variants.{Refused}
 use Rattle.zonotope.specs.Record.{given}
 use Rattle.zonotope.specs.Shape.{Sized}
-use Rattle.zonotope.specs.Valid.{valid, passed}
+use Rattle.zonotope.specs.Valid.{Unrefused, valid, passed}
 use Rattle.whole.specs.Tests.{or-left, or-right}
 use Rattle.zonotope.specs.Answer.{examined, orElse, first-append}
 use Rattle.image.specs.StepAccepted.{StepAccepted}
 use Rattle.answers.specs.Answer.{ofResult, isRefused, none-refuses}
 use Rattle.answers.specs.Order.{in-order, neither}
-use Rattle.answers.specs.Accepted.{Accepted}
-use Rattle.stepping.specs.Work.{workNumbers, workExponents}
-use Rattle.stepping.specs.Arguments.{wrongCounts, wrongLengths, outOfRange, ofArguments}
-use Rattle.step.specs.Answer.{noRoom, worked}
+use Rattle.answers.specs.Accepted.{AcceptedRecord}
+use Rattle.stepping.specs.Arguments.{step-in}
+use Rattle.stepping.specs.Work.{workNumbers, workExponents, worked, result-worked}
+use Rattle.step.specs.Answer.{noRoom}
 
 -- the set, then the step
 abbrev pub ofSetAndStep : Step → Given → Option ℕ
-ofSetAndStep p g = orElse (examine g) (firstOf (ofArguments p (g .set .dimension)))
+ofSetAndStep p g = orElse (examine g) (firstOf (ofStep p (g .set .dimension)))
 
 -- before the result is looked at
 abbrev pub beforeStepping : Bool → Step → Given → Option ℕ
 beforeStepping short p g = cond short (some 13) (ofSetAndStep p g)
 
+-- the answers for room
+module _ (short : Bool) (p : Step) (g : Given) where
+  pub no-room : short ≡ true → Refused 13 ≡ examined (beforeStepping short p g)
+  no-room e = ap (λ (b : Bool). examined (beforeStepping b p g)) (sym e)
+
+  pub room-left : short ≡ false → {r : Examined} → r ≡ examined (ofSetAndStep p g) → r ≡ examined (beforeStepping short p g)
+  room-left e h = h ∙ ap (λ (b : Bool). examined (beforeStepping b p g)) (sym e)
+
 pub step-order : (short : Bool) (p : Step) (g : Given)
     → stepRefusal short p g ≡ orElse (beforeStepping short p g) (ofResult (Step.step standardWeights p (g .set)))
 unfolding stepRefusal firstOf
 step-order true p g = refl
-step-order false p g = in-order g (ofArguments p (g .set .dimension)) ((10 if tooWide (Step.step standardWeights p (g .set))) ∷ [])
+step-order false p g = in-order g (ofStep p (g .set .dimension)) ((10 if tooWide (Step.step standardWeights p (g .set))) ∷ [])
 
 -- ---- whether the step is worked out
 -- a refusal is not for the result where no cause has its number
@@ -74,42 +82,39 @@ module _ (short : Bool) (p : Step) (g : Given) {r : Examined} (from : r ≡ exam
       go : (b : Bool) → isRefused (examined (beforeStepping b p g)) ≡ true → worked (beforeStepping b p g) ≡ false
       go true e = refl
       go false e =
-          let k = ofArguments p (g .set .dimension) in
+          let k = ofStep p (g .set .dimension) in
           let joined = first-append (ofFirst g) k in
           ap worked (sym joined) ∙ not-ten (ofFirst g ++ k) refl (ap (λ (o : Option ℕ). isRefused (examined o)) joined ∙ e)
 
   pub was-worked : isRefused r ≡ false → worked (stepRefusal short p g) ≡ true
-  unfolding firstOf
   was-worked e =
       let m = Step.step standardWeights p (g .set) in
       ap worked (step-order short p g ∙ ap (λ (o : Option ℕ). orElse o (ofResult m)) (none-refuses (beforeStepping short p g) from e))
-      ∙ go (tooWide m)
-    where
-      go : (b : Bool) → worked (cond b (some 10) none) ≡ true
-      go true = refl
-      go false = refl
+      ∙ result-worked m
 
 -- ---- what is left where nothing refuses
 -- room, an accepted set, an accepted step
 pub record Acceptable (s : PolyZonotope) (p : Step) (numbers exponents : ℕ) : Type 0 where
-  pub set : Accepted s
+  pub set : AcceptedRecord s
   pub step : StepAccepted p
   pub numbers-room : workNumbers ≤ numbers
   pub exponents-room : workExponents ≤ exponents
 
+-- what a step with an accepted set passed
+pub set-and-step-in : (s : PolyZonotope) (p : Step) (short : Bool) → beforeStepping short p (given s) ≡ none
+    → (short ≡ false) × Unrefused (given s) × StepAccepted p
+set-and-step-in s p short e =
+    let room = passed short 13 e in
+    let parts = neither (examine (given s)) (firstOf (ofStep p (given s .set .dimension))) (room .1) in
+    (room .0, valid (given s) (parts .0), step-in p (given s .set .dimension) (parts .1))
+
 pub acceptable : (s : PolyZonotope) (p : Step) (numbers exponents : ℕ) → Sized s
     → beforeStepping (noRoom numbers exponents) p (given s) ≡ none → Acceptable s p numbers exponents
-unfolding firstOf
 acceptable s p numbers exponents z e =
-    let room = passed (noRoom numbers exponents) 13 e in
-    let parts = neither (examine (given s)) (firstOf (ofArguments p (given s .set .dimension))) (room .1) in
-    let counts = passed (wrongCounts p) 4 (parts .1) in
-    let lengths = passed (wrongLengths p) 3 (counts .1) in
-    let dimension = passed (differs (p .columns) (given s .set .dimension)) 5 (lengths .1) in
-    let range = passed (outOfRange p) 6 (dimension .1) in
+    let parts = set-and-step-in s p (noRoom numbers exponents) e in
     record {
-      set = record { sized = z; passed = valid (given s) (parts .0) };
-      step = record { counts = counts .0; lengths = lengths .0; range = range .0 };
-      numbers-room = ltb-false numbers workNumbers (or-left (ltb numbers workNumbers) (ltb exponents workExponents) (room .0));
-      exponents-room = ltb-false exponents workExponents (or-right (ltb numbers workNumbers) (ltb exponents workExponents) (room .0));
+      set = record { sized = z; passed = parts .1 };
+      step = parts .2;
+      numbers-room = ltb-false numbers workNumbers (or-left (ltb numbers workNumbers) (ltb exponents workExponents) (parts .0));
+      exponents-room = ltb-false exponents workExponents (or-right (ltb numbers workNumbers) (ltb exponents workExponents) (parts .0));
     }

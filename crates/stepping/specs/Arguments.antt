@@ -1,32 +1,19 @@
--- The causes that refuse a step's own numbers.
+-- What it says of a step that its counts are within limits, and that none of its own numbers refuses it.
 use mathlib.Core.Path.{_≡_}
-use mathlib.Core.List.{List, [], _∷_}
-use mathlib.Core.Bool.{Bool, false, _||_}
-use Prim.Native.Nat.{ℕ, _*_, _≤_}
+use mathlib.Core.Bool.{false}
+use mathlib.Core.Option.{none}
+use Prim.Native.Nat.{ℕ, _≤_}
 use borrow.Author.Tests.{ltb-false}
 use lib.Dec.{ltb, eqb}
-use lib.ListN.{length}
-use Rattle.whole.specs.Tab.{any}
 use Rattle.whole.specs.Tests.{or-left, or-right}
-use Rattle.model.specs.Limits.{maxConstant, maxEntry}
 use Rattle.model.specs.Step.{Step}
-use Rattle.model.specs.Field.{badDimension, beyond, differs}
-use Rattle.model.specs.Run.{Cause, _if_}
+use Rattle.model.specs.Field.{badDimension, differs}
+use Rattle.model.specs.Run.{firstOf}
+use Rattle.model.specs.Library.{badStepCounts, badStepLengths, badStepRange, ofStep}
+use Rattle.zonotope.specs.Valid.{passed}
+use Rattle.image.specs.StepAccepted.{StepAccepted}
 
--- 4, 3 and 6: the step's counts, the lengths of its lists, their entries
-abbrev pub wrongCounts : Step → Bool
-wrongCounts p = badDimension (p .rows) || badDimension (p .columns)
-
-abbrev pub wrongLengths : Step → Bool
-wrongLengths p =
-    differs (length (p .constant)) (p .rows)
-    || differs (length (p .linear)) (p .rows * p .columns)
-    || differs (length (p .quadratic)) (p .rows * p .columns * p .columns)
-
-abbrev pub outOfRange : Step → Bool
-outOfRange p = any (beyond maxConstant) (p .constant) || any (beyond maxEntry) (p .linear) || any (beyond maxEntry) (p .quadratic)
-
-pub counts-in : (p : Step) → wrongCounts p ≡ false → (p .rows ≤ 6) × (p .columns ≤ 6)
+pub counts-in : (p : Step) → badStepCounts p ≡ false → (p .rows ≤ 6) × (p .columns ≤ 6)
 counts-in p e = (
   within (p .rows) (or-left (badDimension (p .rows)) (badDimension (p .columns)) e),
   within (p .columns) (or-right (badDimension (p .rows)) (badDimension (p .columns)) e),
@@ -35,11 +22,10 @@ counts-in p e = (
     within : (n : ℕ) → badDimension n ≡ false → n ≤ 6
     within n h = ltb-false 6 n (or-right (eqb n 0) (ltb 6 n) h)
 
--- the step's own numbers, for a set of this dimension
-abbrev pub ofArguments : Step → ℕ → List Cause
-ofArguments p dimension =
-    (4 if wrongCounts p)
-    ∷ (3 if wrongLengths p)
-    ∷ (5 if differs (p .columns) dimension)
-    ∷ (6 if outOfRange p)
-    ∷ []
+pub step-in : (p : Step) (dimension : ℕ) → firstOf (ofStep p dimension) ≡ none → StepAccepted p
+unfolding firstOf
+step-in p dimension e =
+    let counts = passed (badStepCounts p) 4 e in
+    let lengths = passed (badStepLengths p) 3 (counts .1) in
+    let range = passed (badStepRange p) 6 (passed (differs (p .columns) dimension) 5 (lengths .1) .1) in
+    record { counts = counts .0; lengths = lengths .0; range = range .0 }

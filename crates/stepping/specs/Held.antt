@@ -21,7 +21,7 @@ use Rattle.zonotope.specs.Counts.{InLimits, in-limits}
 use Rattle.rows.specs.Rows.{numberRow, rowsOf, Small}
 use Rattle.raw.specs.Accepted as Raw
 use Rattle.raw.specs.Unused.{generatorAt}
-use Rattle.raw.specs.Append.{Bounded, Kept, term-same}
+use Rattle.raw.specs.Append.{Bounded, KeptFrom, term-same}
 use Rattle.raw.specs.Parts.{wideVectors}
 use Rattle.image.specs.declared.Image.{Image}
 use Rattle.image.specs.StepAccepted.{StepAccepted, shaped}
@@ -32,7 +32,7 @@ use Rattle.finish.specs.declared.Finished.{Finished}
 use Rattle.finish.specs.Held.{held, finishedAs}
 use Rattle.finish.specs.Wide.{wide, wideVector}
 use Rattle.finish.specs.WideFinish.{Narrow}
-use Rattle.answers.specs.Accepted.{Accepted, ready}
+use Rattle.answers.specs.Accepted.{AcceptedRecord, ready}
 use Rattle.answers.specs.Finishing.{Finishable, finished-held}
 use Rattle.stepping.specs.Work.{workNumbers, workExponents}
 
@@ -47,7 +47,7 @@ unfinishedImage p s r = record {
 }
 
 -- as far as the image needs it
-pub for-image : {s : PolyZonotope} → Accepted s → Raw.Accepted s
+pub for-image : {s : PolyZonotope} → AcceptedRecord s → Raw.InSpan s
 for-image a = record {
   counts = a .passed .counts;
   range = a .passed .range;
@@ -83,7 +83,7 @@ vector-rows gs few =
     ∙ sym (map-tab wideVector (length gs) (λ t. getD gs t []))
     ∙ ap (map wideVector) (tab-getD (length gs) gs [] refl)
 
-module _ (p : Step) (s : PolyZonotope) (a : Accepted s) (ok : StepAccepted p) where
+module _ (p : Step) (s : PolyZonotope) (a : AcceptedRecord s) (ok : StepAccepted p) where
   abbrev image : Zonotope
   image = rounded (raw p (view s))
 
@@ -156,8 +156,8 @@ module _ (p : Step) (s : PolyZonotope) (a : Accepted s) (ok : StepAccepted p) wh
 
 -- ---- places of the slices that no image uses
 module _ {p : Step} {s : PolyZonotope} {e₀ e : List ℕ} {w₀ w : List ℤ} {r : Image} (d : Imaged p s e₀ w₀ r e w) where
-  pub numbers-kept : Kept (pos 0) workNumbers w₀ w
+  pub numbers-kept : KeptFrom (pos 0) workNumbers w₀ w
   numbers-kept = let inside = d .inside in record { place = λ x h. d .later-numbers .place x (omega arith) }
 
-  pub exponents-kept : Kept 0 workExponents e₀ e
+  pub exponents-kept : KeptFrom 0 workExponents e₀ e
   exponents-kept = let inside = d .inside in record { place = λ x h. d .later-exponents .place x (omega arith) }

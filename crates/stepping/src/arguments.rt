@@ -4,9 +4,9 @@ ghost use mathlib.Core.Bool.{_||_};
 ghost use Prim.Native.Nat.{_*_, _≤_};
 ghost use Rattle.model.specs.Field.{differs};
 ghost use Rattle.model.specs.Run.{firstOf};
+ghost use Rattle.model.specs.Library.{ofStep};
 ghost use Rattle.zonotope.specs.Answer.{examined};
 ghost use Rattle.image.specs.StepAccepted.{stepOf};
-ghost use Rattle.stepping.specs.Arguments.{ofArguments};
 use zonotope::Examined;
 
 // Document 01's limits: of the size of a constant, and of an entry of A or Q.
@@ -16,7 +16,7 @@ const MAX_ENTRY: u64 = 32768;
 
 // The first cause that refuses a step's own numbers.
 pub fn of_step(dimension: usize, m: usize, n: usize, c: &[i32], a: &[i32], q: &[i32]) -> Examined
-    ensures { λ r. ⌜ r ≡ examined (firstOf (ofArguments (stepOf m n (now (c .entry)) (now (a .entry)) (now (q .entry))) dimension)) ⌝ }
+    ensures { λ r. ⌜ r ≡ examined (firstOf (ofStep (stepOf m n (now (c .entry)) (now (a .entry)) (now (q .entry))) dimension)) ⌝ }
 {
     if zonotope::arguments::bad_dimension(m) | zonotope::arguments::bad_dimension(n) {
         return Examined::Refused(4);

@@ -8,10 +8,10 @@ ghost use Rattle.model.specs.Limits.{standardWeights};
 ghost use Rattle.model.specs.Step.{step};
 ghost use Rattle.model.specs.Finish.{finish};
 ghost use Rattle.zonotope.specs.Record.{view};
-ghost use Rattle.raw.specs.Append.{Kept};
+ghost use Rattle.raw.specs.Append.{KeptFrom};
 ghost use Rattle.image.specs.StepAccepted.{StepAccepted, stepOf};
 ghost use Rattle.finish.specs.Held.{held, finishedAs};
-ghost use Rattle.answers.specs.Accepted.{Accepted};
+ghost use Rattle.answers.specs.Accepted.{AcceptedRecord};
 ghost use Rattle.answers.specs.Finishing.{Finishable};
 ghost use Rattle.stepping.specs.Work.{workNumbers, workExponents};
 use finish::Finished;
@@ -37,11 +37,11 @@ pub fn image_finished(
     w: &mut [i64],
     e: &mut [u8],
 ) -> Finished
-    requires { ⌜ Accepted s × StepAccepted (stepOf m n (now c) (now a) (now q))
+    requires { ⌜ AcceptedRecord s × StepAccepted (stepOf m n (now c) (now a) (now q))
         × (workNumbers ≤ length (now w)) × (workExponents ≤ length (now e)) ⌝ }
     ensures { λ r. ⌜ r ≡ finishedAs (step standardWeights (stepOf m n (now (c .entry)) (now (a .entry)) (now (q .entry))) (view s)) ⌝ }
-    ensures numbers { λ r. ⌜ Kept (pos 0) workNumbers (now (w .entry)) (now (w .exit)) ⌝ }
-    ensures exponents { λ r. ⌜ Kept 0 workExponents (now (e .entry)) (now (e .exit)) ⌝ }
+    ensures numbers { λ r. ⌜ KeptFrom (pos 0) workNumbers (now (w .entry)) (now (w .exit)) ⌝ }
+    ensures exponents { λ r. ⌜ KeptFrom 0 workExponents (now (e .entry)) (now (e .exit)) ⌝ }
 {
     let image = image::of_step(m, n, c, a, q, s, w, e);
     let rows = image.rows;

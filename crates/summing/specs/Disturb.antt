@@ -10,11 +10,9 @@ use borrow.Author.Tests.{ltb-false}
 use lib.Dec.{ltb}
 use lib.ListN.{length, getD, List·getD-eq-default}
 use lib.Seq.{ext-getD}
-use Rattle.rational.specs.Sum.{All-imp}
 use Rattle.whole.specs.Tab.{tab, any, length-tab, getD-tab, tab-cong}
 use Rattle.whole.specs.Write.{write, write-length, write-at, write-after}
 use Rattle.model.specs.Limits.{maxDisturbance}
-use Rattle.model.specs.Set.{Zonotope}
 use Rattle.model.specs.Valid.{badCounts, tooWide}
 use Rattle.model.specs.Operations.{disturb}
 use Rattle.model.proofs.Vectors.{plusℕ-at, longer-length}
@@ -22,16 +20,16 @@ use Rattle.model.proofs.Shape as Shape
 use Rattle.zonotope.specs.declared.PolyZonotope.{PolyZonotope}
 use Rattle.zonotope.specs.Record.{view, pack}
 use Rattle.zonotope.specs.Counts.{InLimits, countable}
-use Rattle.zonotope.specs.Shape.{Shaped}
 use Rattle.whole.specs.Tests.{none-at, any-list}
 use Rattle.zonotope.proofs.ViewPack.{view-pack}
 use Rattle.align.specs.Examined.{radii-wide, radii-small}
-use Rattle.answers.specs.Accepted.{Accepted, view-shaped, own-record}
+use Rattle.answers.specs.Accepted.{AcceptedRecord, own-record}
+use Rattle.zonotope.proofs.ViewPack.{view-shaped}
 use Rattle.summing.specs.Summand.{for-sum}
 
 -- an accepted record, and radii that may be added to its own
 pub record Disturbable (s : PolyZonotope) (radii : List ℕ) : Type 0 where
-  pub set : Accepted s
+  pub set : AcceptedRecord s
   pub long : length radii ≡ s .dimension
   pub small : any (ltb maxDisturbance) radii ≡ false
 
@@ -51,15 +49,6 @@ added own radii e few =
     go i (no l) =
         let z : getD radii i 0 ≡ 0 = List·getD-eq-default radii 0 (omega arith) in
         write-after own 0 f 0 (length radii) i (omega arith) ∙ omega arith
-
--- a shaped set is one that a record can hold
-shaped : {m : Zonotope} → Shape.Shaped m → Shaped m
-shaped h = record {
-  centre = h .centre-long;
-  terms = All-imp (λ t r. record { exponents = r .exponents-long; coefficients = r .coefficients-long }) (h .rows);
-  generators = h .generators-long;
-  radii = h .radii-long;
-}
 
 -- the record with other radii
 abbrev pub withRadii : PolyZonotope → List ℕ → PolyZonotope
@@ -120,4 +109,4 @@ module _ (s : PolyZonotope) (radii : List ℕ) (h : Disturbable s radii) where
   disturbed-limits = countable (disturb radii (view s)) disturbed-counts
 
   pub disturbed-width : tooWide (view (pack (disturb radii (view s)))) ≡ tooWide (disturb radii (view s))
-  disturbed-width = ap tooWide (view-pack (disturb radii (view s)) (shaped disturbed-shape) disturbed-counts)
+  disturbed-width = ap tooWide (view-pack (disturb radii (view s)) disturbed-shape disturbed-counts)

@@ -29,7 +29,7 @@ use Rattle.finish.specs.declared.Finished.{Finished}
 use Rattle.finish.specs.Held.{held, finishedAs}
 use Rattle.finish.specs.Wide.{wide}
 use Rattle.finish.specs.WideFinish.{Narrow}
-use Rattle.answers.specs.Accepted.{Accepted, ready}
+use Rattle.answers.specs.Accepted.{AcceptedRecord, ready}
 use Rattle.answers.specs.Finishing.{Finishable, finished-held, zeros-small}
 use Rattle.summing.specs.Summable.{Summable}
 use Rattle.summing.specs.Wide.{small-in, small-mono, under-in}
@@ -117,7 +117,7 @@ module _ (s u : Zonotope) {all : Identifiers} (f : Factors (joined s u) all) whe
   factors-common e = record { few = ltb-false maxFactors (all .count) e; identifiers = f .identifiers }
 
 -- ---- the sum of a set and u, finished
-module _ (a : PolyZonotope) (h : Accepted a) (u : Zonotope) (sh : Shaped (joined (view a) u)) (all : Identifiers) (s : Sum) {e₀ e : List ℕ}
+module _ (a : PolyZonotope) (h : AcceptedRecord a) (u : Zonotope) (sh : Shaped (joined (view a) u)) (all : Identifiers) (s : Sum) {e₀ e : List ℕ}
     {c₀ c g₀ g : List ℤ} (j : Joined (joined (view a) u) all s e₀ e c₀ c g₀ g) where
   coordinates-few : a .dimension ≤ 6
   unfolding view

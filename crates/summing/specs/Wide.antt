@@ -22,7 +22,8 @@ use Rattle.finish.specs.declared.Finished.{Finished}
 use Rattle.finish.specs.Held.{held, finishedAs}
 use Rattle.finish.specs.Wide.{wideVector, wideTerm, wide}
 use Rattle.finish.specs.WideFinish.{Narrow}
-use Rattle.answers.specs.Accepted.{Accepted, view-shaped, own-record}
+use Rattle.answers.specs.Accepted.{AcceptedRecord, own-record}
+use Rattle.zonotope.proofs.ViewPack.{view-shaped}
 use Rattle.summing.specs.Summand.{for-sum}
 use Rattle.answers.specs.Finishing.{Finishable, finished-held}
 
@@ -88,7 +89,7 @@ under-in {b} n f h = record { under = λ i. go i (decLt i n) } where
   go i (yes l) = rw (getD-tab n f 0 i l) (h i l)
   go i (no l) = rw (getD-tab-past n f 0 i (omega arith)) (omega arith)
 
-module _ (s : PolyZonotope) (a : Accepted s) where
+module _ (s : PolyZonotope) (a : AcceptedRecord s) where
   pub narrow : Narrow (view s)
   unfolding view
   narrow = let few = counts s (for-sum s a) in record {

@@ -8,7 +8,9 @@ ghost use Rattle.zonotope.specs.Record.{view, pack};
 ghost use Rattle.answers.specs.Answer.{answered, ofResult};
 ghost use Rattle.summing.specs.Disturb.{Disturbable};
 use answers::Changed;
+use arrays::span;
 use zonotope::Examined;
+use zonotope::MAX_SPAN;
 use zonotope::PolyZonotope;
 
 // The answer for an examined set and examined radii: 10 where the result is too wide.
@@ -17,7 +19,19 @@ pub fn disturbed(s: PolyZonotope, radii: &[u32]) -> Changed
     ensures { λ r. ⌜ r ≡ answered (ofResult (disturb (now (radii .entry)) (view s))) s (disturb (now (radii .entry)) (view s)) ⌝ }
 {
     let t = with_radii(s, radii);
-    if zonotope::too_wide(t) {
+    let n = t.dimension;
+    let h = t.terms;
+    let q = t.generators;
+    if span::too_wide(
+        &t.centre,
+        &t.coefficients,
+        &t.vectors,
+        &t.radii,
+        n,
+        h,
+        q,
+        MAX_SPAN,
+    ) {
         return Changed {
             outcome: Examined::Refused(10),
             set: s,

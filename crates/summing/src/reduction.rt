@@ -9,7 +9,7 @@ ghost use Rattle.zonotope.specs.Record.{view};
 ghost use Rattle.zonotope.specs.Shape.{Sized};
 ghost use Rattle.finish.specs.Held.{finishedAs};
 ghost use Rattle.answers.specs.Answer.{answered, ofResult};
-ghost use Rattle.answers.specs.Accepted.{Accepted};
+ghost use Rattle.answers.specs.Accepted.{AcceptedRecord};
 ghost use Rattle.summing.specs.Wide.{unfinishedOf};
 use crate::finishing;
 use answers::Changed;
@@ -19,7 +19,7 @@ use zonotope::PolyZonotope;
 
 // The answer for an examined set and limits of a set: 10 where the result is too wide.
 pub fn reduced(s: PolyZonotope, term_limit: usize, generator_limit: usize) -> Changed
-    requires { ⌜ Accepted s × («term_limit» ≤ 40) × («generator_limit» ≤ 24) ⌝ }
+    requires { ⌜ AcceptedRecord s × («term_limit» ≤ 40) × («generator_limit» ≤ 24) ⌝ }
     ensures { λ r. ⌜ r ≡ answered (ofResult (reduce standardWeights «term_limit» «generator_limit» (view s))) s
         (reduce standardWeights «term_limit» «generator_limit» (view s)) ⌝ }
 {
@@ -29,7 +29,7 @@ pub fn reduced(s: PolyZonotope, term_limit: usize, generator_limit: usize) -> Ch
 
 // The set, finished with these limits.
 fn finished(s: PolyZonotope, term_limit: usize, generator_limit: usize) -> Finished
-    requires { ⌜ Accepted s × («term_limit» ≤ 40) × («generator_limit» ≤ 24) ⌝ }
+    requires { ⌜ AcceptedRecord s × («term_limit» ≤ 40) × («generator_limit» ≤ 24) ⌝ }
     ensures { λ r. ⌜ r ≡ finishedAs (reduce standardWeights «term_limit» «generator_limit» (view s)) ⌝ }
 {
     let u = unfinished(s);

@@ -2,19 +2,16 @@
 use mathlib.Core.Path.{_≡_, ap, _∙_}
 use mathlib.Core.List.{List, [], _∷_}
 use mathlib.Core.Option.{Option}
-use mathlib.Core.Bool.{true, false, _||_}
+use mathlib.Core.Bool.{true, false}
 use Prim.Native.Nat.{ℕ}
 use borrow.Author.Tests.{eq-eqb, ne-eqb}
-use lib.Dec.{ltb}
-use lib.ListN.{length}
-use Rattle.whole.specs.Tab.{any}
-use Rattle.model.specs.Limits.{maxTerms, maxGenerators, maxDisturbance, standardWeights}
+use Rattle.model.specs.Limits.{standardWeights}
 use Rattle.model.specs.Set.{Zonotope}
 use Rattle.model.specs.Valid.{badCounts}
-use Rattle.model.specs.Field.{badDimension, differs, tooMany}
+use Rattle.model.specs.Field.{tooMany}
 use Rattle.model.specs.Operations.{disturb, reduce, tiedSum, independentSum, renumbered}
-use Rattle.model.specs.Run.{Cause, _if_, firstOf}
-use Rattle.model.specs.Library.{Given, ofSecond, badNext, examine, disturbRefusal, reduceRefusal, tiedRefusal}
+use Rattle.model.specs.Run.{_if_, firstOf}
+use Rattle.model.specs.Library.{Given, ofSecond, ofRadii, ofLimits, badNext, examine, disturbRefusal, reduceRefusal, tiedRefusal}
 use Rattle.model.specs.Library.{independentRefusal}
 use Rattle.zonotope.specs.declared.Examined.{Examined}
 use Rattle.zonotope.specs.declared.Examined.the-variants.{Refused}
@@ -23,16 +20,7 @@ use Rattle.answers.specs.Answer.{ofResult}
 use Rattle.answers.specs.Order.{orElse-assoc, in-order}
 use Rattle.summing.specs.Summable.{ofFactors}
 
--- ---- a disturbance's radii, for n coordinates: 4, 3, 5, 6
-abbrev pub ofRadii : ℕ → List ℕ → ℕ → List Cause
-ofRadii n radii dimension =
-    (4 if badDimension n)
-    ∷ (3 if differs (length radii) n)
-    ∷ (5 if differs n dimension)
-    ∷ (6 if any (ltb maxDisturbance) radii)
-    ∷ []
-
--- before the result is looked at
+-- ---- a disturbance: the set, then the radii, before the result is looked at
 abbrev pub beforeDisturbing : ℕ → List ℕ → Given → Option ℕ
 beforeDisturbing n radii g = orElse (examine g) (firstOf (ofRadii n radii (g .set .dimension)))
 
@@ -41,10 +29,7 @@ pub disturb-order : (n : ℕ) (radii : List ℕ) (g : Given)
 unfolding disturbRefusal
 disturb-order n radii g = in-order g (ofRadii n radii (g .set .dimension)) _
 
--- ---- a reduction's limits: 4
-abbrev pub ofLimits : ℕ → ℕ → List Cause
-ofLimits termLimit generatorLimit = (4 if ltb maxTerms termLimit || ltb maxGenerators generatorLimit) ∷ []
-
+-- ---- a reduction: the set, then the limits, before the result is looked at
 abbrev pub beforeReducing : ℕ → ℕ → Given → Option ℕ
 beforeReducing termLimit generatorLimit g = orElse (examine g) (firstOf (ofLimits termLimit generatorLimit))
 

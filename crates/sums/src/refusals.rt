@@ -1,27 +1,20 @@
 // The causes that refuse a call before it works, each a test, and their order.
 ghost use mathlib.Core.Path.{_≡_};
-ghost use mathlib.Core.Bool.{not, _||_};
-ghost use Prim.Native.Nat.{_≤_};
+ghost use mathlib.Core.Bool.{_||_};
 ghost use lib.Dec.{ltb};
-ghost use lib.ListN.{getD};
-ghost use Rattle.whole.specs.Tab.{tab, any};
+ghost use Rattle.whole.specs.Tab.{any};
 ghost use Rattle.model.specs.Limits.{maxTerms, maxGenerators, maxDisturbance};
 ghost use Rattle.model.specs.Run.{firstOf};
-ghost use Rattle.model.specs.Library.{ofSecond, badNext};
+ghost use Rattle.model.specs.Library.{ofSecond, ofRadii, ofLimits, badNext};
 ghost use Rattle.zonotope.specs.Record.{view, given};
 ghost use Rattle.zonotope.specs.Shape.{Sized};
 ghost use Rattle.zonotope.specs.Answer.{examined, orElse};
-ghost use Rattle.sums.specs.Causes.{ofRadii, beforeDisturbing, ofLimits, beforeReducing, beforeSumming, ofNext};
+ghost use Rattle.sums.specs.Causes.{beforeDisturbing, beforeReducing, beforeSumming, ofNext};
 use zonotope::Examined;
 use zonotope::PolyZonotope;
 
 // The largest radius of a disturbance.
 const MAX_DISTURBANCE: u32 = 1048576;
-
-// The first and the last of the next identifiers.
-const FIRST_FRESH: u32 = 65536;
-
-const LAST_FRESH: u32 = 1999999988;
 
 // ---- the order
 
@@ -113,7 +106,7 @@ pub fn before_renumbering(first: PolyZonotope, second: PolyZonotope, next: u32) 
     if answers::is_refused(o) {
         return o;
     }
-    if bad_next(first, next) {
+    if fresh::bad_next(first, next) {
         return Examined::Refused(11);
     }
     Examined::Accepted
@@ -134,28 +127,6 @@ fn radii_out(radii: &[u32]) -> bool
 {
     for i in 0..radii.len() {
         if MAX_DISTURBANCE < radii[i] {
-            return true;
-        }
-    }
-    false
-}
-
-// 11: whether the next identifier is out of its range or not above the set's identifiers.
-fn bad_next(s: PolyZonotope, next: u32) -> bool
-    requires { ⌜ s .factors ≤ 12 ⌝ }
-    ensures { λ r. ⌜ r ≡ badNext next (view s) ⌝ }
-{
-    let p = s.factors;
-    (next < FIRST_FRESH) | (LAST_FRESH < next) | reaches(&s.identifiers, p, next)
-}
-
-// Whether one of the first p identifiers is not below the next one.
-fn reaches(ids: &[u32; 12], p: usize, next: u32) -> bool
-    requires { ⌜ p ≤ 12 ⌝ }
-    ensures { λ r. ⌜ r ≡ any (λ k. not (ltb k next)) (tab p (λ i. getD (now (ids .entry)) i 0)) ⌝ }
-{
-    for i in 0..p {
-        if next <= ids[i] {
             return true;
         }
     }

@@ -3,9 +3,10 @@ ghost use mathlib.Core.Path.{_≡_};
 ghost use mathlib.Core.List.{map};
 ghost use mathlib.Core.Bool.{_||_};
 ghost use Prim.Native.Nat.{_+_, _*_, _^_, _≤_, _<_};
+ghost use lib.Dec.{ltb};
 ghost use lib.ListN.{length};
 ghost use lib.IntN.{natAbs};
-ghost use Rattle.whole.specs.Tab.{any};
+ghost use Rattle.whole.specs.Tab.{tab, any};
 ghost use Rattle.whole.specs.Write.{write};
 ghost use Rattle.model.specs.Bytes.{byte, number, signed, word, long, words};
 ghost use Rattle.model.specs.Field.{negative, beyond};
@@ -61,13 +62,14 @@ fn size_at(b: &[u8], i: usize) -> u32
     whole::size_i32(word_at(b, i)) as u32
 }
 
+// A byte as a number of 64 bits.
 fn wide(x: u8) -> usize
     ensures { λ r. ⌜ (r ≡ x) × (r < 256) ⌝ }
 {
     x as usize
 }
 
-// The signed number whose bits are n: as far below 0 as n is below the first number that has no bits.
+// The signed number whose bits are n: n itself, or as far below -1 as n is below the largest pattern.
 fn signed_32(n: u32) -> i32
     ensures { λ r. ⌜ r ≡ signed (2 ^ 31) n ⌝ }
 {
@@ -169,6 +171,19 @@ pub fn any_negative(b: &[u8], i: usize, n: usize) -> bool
     ensures { λ r. ⌜ r ≡ any negative (words (now (b .entry)) i n) ⌝ }
 {
     any_outside(b, i, n, 2147483648)
+}
+
+// Whether one of n unsigned numbers of 4 bytes is greater than the limit.
+pub fn any_above(b: &[u8], i: usize, n: usize, limit: u32) -> bool
+    requires { ⌜ i + 4 * n ≤ length (now b) ⌝ }
+    ensures { λ r. ⌜ r ≡ any (ltb limit) (tab n (λ k. number 4 (now (b .entry)) (i + 4 * k))) ⌝ }
+{
+    for k in 0..n {
+        if limit < unsigned_at(b, i + 4 * k) {
+            return true;
+        }
+    }
+    false
 }
 
 // Whether z is negative or greater than the limit.

@@ -20,7 +20,8 @@ use Rattle.arrays.specs.Spare.{inRows}
 use Rattle.zonotope.specs.Record.{view, pack, noTerm, spare}
 use Rattle.whole.specs.Tests.{any-none}
 use Rattle.zonotope.specs.Counts.{countable}
-use Rattle.zonotope.specs.Shape.{Shaped}
+use Rattle.model.proofs.Tests.{all-tab}
+use Rattle.model.proofs.Shape.{Shaped}
 
 -- ---- what the record of a set means
 all-at : {A : Type 0} {P : A → Type 0} {l : List A} (d : A) → All P l → (i : ℕ) → i < length l → P (getD l i d)
@@ -49,17 +50,17 @@ view-pack m z b =
     same-set m _ _ _ _ _ _
     refl
     (front 0 12 p (λ i. getD (m .identifiers) i 0) (l .factors) ∙ tab-getD p (m .identifiers) 0 refl)
-    (front (pos 0) 6 n (at (m .centre)) (l .dimension) ∙ tab-getD n (m .centre) (pos 0) (z .centre))
-    (tab-cong (length (m .terms)) _ _ (λ t h. let s = all-at noTerm (z .terms) t h in same-term (getD (m .terms) t noTerm) _ _
-    (row-of 0 12 480 t p (λ q i. getD (getD (m .terms) q noTerm .exponents) i 0) (l .factors) (omega arith) ∙ tab-getD p _ 0 (s .exponents))
+    (front (pos 0) 6 n (at (m .centre)) (l .dimension) ∙ tab-getD n (m .centre) (pos 0) (z .centre-long))
+    (tab-cong (length (m .terms)) _ _ (λ t h. let s = all-at noTerm (z .rows) t h in same-term (getD (m .terms) t noTerm) _ _
+    (row-of 0 12 480 t p (λ q i. getD (getD (m .terms) q noTerm .exponents) i 0) (l .factors) (omega arith) ∙ tab-getD p _ 0 (s .exponents-long))
     (row-of (pos 0) 6 240 t n (λ q i. at (getD (m .terms) q noTerm .coefficients) i) (l .dimension) (omega arith)
-    ∙ tab-getD n _ (pos 0) (s .coefficients)))
+    ∙ tab-getD n _ (pos 0) (s .coefficients-long)))
     ∙ tab-getD (length (m .terms)) (m .terms) noTerm refl)
     (tab-cong (length (m .generators)) _ _ (λ g h.
     row-of (pos 0) 6 144 g n (λ q i. at (getD (m .generators) q []) i) (l .dimension) (omega arith)
-    ∙ tab-getD n _ (pos 0) (all-at [] (z .generators) g h))
+    ∙ tab-getD n _ (pos 0) (all-at [] (z .generators-long) g h))
     ∙ tab-getD (length (m .generators)) (m .generators) [] refl)
-    (front 0 6 n (λ i. getD (m .radii) i 0) (l .dimension) ∙ tab-getD n (m .radii) 0 (z .radii))
+    (front 0 6 n (λ i. getD (m .radii) i 0) (l .dimension) ∙ tab-getD n (m .radii) 0 (z .radii-long))
   where
     same-term : (t : Term) (e : List ℕ) (c : List ℤ) → e ≡ t .exponents → c ≡ t .coefficients →
         _≡_ {A = Term} (record { exponents = e; coefficients = c }) t
@@ -109,29 +110,25 @@ spare-pack m z =
     let none-past : (k : ℕ) → h ≤ k → T k ≡ noTerm = λ k l. List·getD-eq-default (m .terms) noTerm l in
     rw (
       full 0 (λ k. eqb k 0) refl 12 p (m .identifiers) (omega arith),
-      full (pos 0) isZero refl 6 n (m .centre) (omega (arith, z .centre)),
-      full-rows 0 (λ k. eqb k 0) refl 12 480 h p (λ t. T t .exponents) (λ t l. all-at noTerm (z .terms) t l .exponents)
+      full (pos 0) isZero refl 6 n (m .centre) (omega (arith, z .centre-long)),
+      full-rows 0 (λ k. eqb k 0) refl 12 480 h p (λ t. T t .exponents) (λ t l. all-at noTerm (z .rows) t l .exponents-long)
           (λ t l. ap (λ t. t .exponents) (none-past t l)),
-      full-rows (pos 0) isZero refl 6 240 h n (λ t. T t .coefficients) (λ t l. all-at noTerm (z .terms) t l .coefficients)
+      full-rows (pos 0) isZero refl 6 240 h n (λ t. T t .coefficients) (λ t l. all-at noTerm (z .rows) t l .coefficients-long)
           (λ t l. ap (λ t. t .coefficients) (none-past t l)),
-      full-rows (pos 0) isZero refl 6 144 q n (λ g. getD (m .generators) g []) (λ g l. all-at [] (z .generators) g l)
+      full-rows (pos 0) isZero refl 6 144 q n (λ g. getD (m .generators) g []) (λ g l. all-at [] (z .generators-long) g l)
           (λ g l. List·getD-eq-default (m .generators) [] l),
-      full 0 (λ k. eqb k 0) refl 6 n (m .radii) (omega (arith, z .radii)),
+      full 0 (λ k. eqb k 0) refl 6 n (m .radii) (omega (arith, z .radii-long)),
     )
 
 -- ---- what a record means has the shape of a set
-all-tab : {A : Type 0} {P : A → Type 0} (n : ℕ) (f : ℕ → A) → ((k : ℕ) → P (f k)) → All P (tab n f)
-unfolding tab
-all-tab zero f h = none
-all-tab (suc n) f h = more (h 0) (all-tab n (λ k. f (suc k)) (λ k. h (suc k)))
-
 pub view-shaped : (s : PolyZonotope) → Shaped (view s)
 unfolding view
 view-shaped s = record {
-  centre = length-tab (s .dimension) _;
-  terms =
-      all-tab (s .terms) _
-      (λ t. record { exponents = length-tab (s .factors) _ ∙ sym (length-tab (s .factors) _); coefficients = length-tab (s .dimension) _ });
-  generators = all-tab (s .generators) _ (λ g. length-tab (s .dimension) _);
-  radii = length-tab (s .dimension) _;
+  centre-long = length-tab (s .dimension) _;
+  radii-long = length-tab (s .dimension) _;
+  rows = all-tab (s .terms) _ (λ t h. record {
+    exponents-long = length-tab (s .factors) _ ∙ sym (length-tab (s .factors) _);
+    coefficients-long = length-tab (s .dimension) _;
+  });
+  generators-long = all-tab (s .generators) _ (λ g h. length-tab (s .dimension) _);
 }

@@ -12,10 +12,11 @@ use Rattle.model.specs.Set.{Zonotope}
 use Rattle.model.specs.Valid.{badCounts}
 use Rattle.zonotope.specs.declared.PolyZonotope.{PolyZonotope}
 use Rattle.zonotope.specs.Record.{view}
+use Rattle.zonotope.specs.Causes.{countsOut}
 use Rattle.whole.specs.Tests.{or-left, or-right}
 
 -- n coordinates, p factors, h terms and q generators
-pub record Counts (n p h q : ℕ) : Type 0 where
+pub record WithinLimits (n p h q : ℕ) : Type 0 where
   pub some : 0 < n
   pub dimension : n ≤ maxDimension
   pub factors : p ≤ maxFactors
@@ -24,10 +25,10 @@ pub record Counts (n p h q : ℕ) : Type 0 where
 
 -- of a record, and of a set
 abbrev pub InLimits : PolyZonotope → Type 0
-InLimits s = Counts (s .dimension) (s .factors) (s .terms) (s .generators)
+InLimits s = WithinLimits (s .dimension) (s .factors) (s .terms) (s .generators)
 
 abbrev pub Countable : Zonotope → Type 0
-Countable m = Counts (m .dimension) (length (m .identifiers)) (length (m .terms)) (length (m .generators))
+Countable m = WithinLimits (m .dimension) (length (m .identifiers)) (length (m .terms)) (length (m .generators))
 
 -- what refusal 4 lets pass
 pub countable : (m : Zonotope) → badCounts m ≡ false → Countable m
@@ -51,9 +52,7 @@ countable m e =
     }
 
 -- the counts of a record are those of its set
-pub view-counts : (s : PolyZonotope) → badCounts (view s) ≡
-    (eqb (s .dimension) 0 || ltb maxDimension (s .dimension) || ltb maxFactors (s .factors) || ltb maxTerms (s .terms)
-    || ltb maxGenerators (s .generators))
+pub view-counts : (s : PolyZonotope) → badCounts (view s) ≡ countsOut (s .dimension) (s .factors) (s .terms) (s .generators)
 unfolding badCounts view
 view-counts s = simp length-tab
 

@@ -4,27 +4,16 @@ use mathlib.Core.List.{List}
 use Prim.Native.Nat.{ℕ}
 use lib.ListN.{length}
 use lib.IntN.{ℤ}
-use Rattle.rational.specs.Sum.{All}
-use Rattle.model.specs.Set.{Term, Zonotope}
 use Rattle.zonotope.specs.declared.PolyZonotope.{PolyZonotope}
 
 -- the arrays of a record have their lengths
-pub record Sized (s : PolyZonotope) : Type 0 where
-  pub identifiers : length (s .identifiers) ≡ 12
-  pub centre : length (s .centre) ≡ 6
-  pub exponents : length (s .exponents) ≡ 480
-  pub coefficients : length (s .coefficients) ≡ 240
-  pub vectors : length (s .vectors) ≡ 144
-  pub radii : length (s .radii) ≡ 6
+pub record Lengths (ids : List ℕ) (c : List ℤ) (e : List ℕ) (g v : List ℤ) (r : List ℕ) : Type 0 where
+  pub identifiers : length ids ≡ 12
+  pub centre : length c ≡ 6
+  pub exponents : length e ≡ 480
+  pub coefficients : length g ≡ 240
+  pub vectors : length v ≡ 144
+  pub radii : length r ≡ 6
 
--- a term over p factors in n coordinates
-pub record TermShaped (p n : ℕ) (t : Term) : Type 0 where
-  pub exponents : length (t .exponents) ≡ p
-  pub coefficients : length (t .coefficients) ≡ n
-
--- every vector of a set has a number for each coordinate, every term an exponent for each factor
-pub record Shaped (m : Zonotope) : Type 0 where
-  pub centre : length (m .centre) ≡ m .dimension
-  pub terms : All (TermShaped (length (m .identifiers)) (m .dimension)) (m .terms)
-  pub generators : All (λ (g : List ℤ). length g ≡ m .dimension) (m .generators)
-  pub radii : length (m .radii) ≡ m .dimension
+abbrev pub Sized : PolyZonotope → Type 0
+Sized s = Lengths (s .identifiers) (s .centre) (s .exponents) (s .coefficients) (s .vectors) (s .radii)

@@ -11,7 +11,7 @@ use Rattle.model.specs.Library.{Given, examine}
 use Rattle.whole.specs.Tests.{or-left, or-right}
 
 -- none of the causes 4, 6, 7 and 8 holds
-pub record Valid (g : Given) : Type 0 where
+pub record Unrefused (g : Given) : Type 0 where
   pub counts : badCounts (g .set) ≡ false
   pub range : badRange recordIdentifiers (g .set) ≡ false
   pub full : g .spare ≡ false
@@ -23,7 +23,7 @@ pub passed : (b : Bool) (n : ℕ) {o : Option ℕ} → cond b (some n) o ≡ non
 passed true n e = let z : _≡_ {A = ℕ} 0 1 = cc in absurd (omega arith)
 passed false n e = (refl, e)
 
-pub valid : (g : Given) → examine g ≡ none → Valid g
+pub valid : (g : Given) → examine g ≡ none → Unrefused g
 unfolding examine firstOf
 valid g e =
     let a = passed (badCounts (g .set)) 4 e in

@@ -1,7 +1,7 @@
 -- What a record means, by the places of its arrays.
 use mathlib.Core.Path.{_≡_, refl, sym, _∙_, ap, ap₂}
 use mathlib.Core.List.{List}
-use mathlib.Core.Bool.{Bool, not, _&&_, _||_, or-assoc}
+use mathlib.Core.Bool.{not, _&&_, _||_, or-assoc}
 use Prim.Native.Nat.{ℕ, _+_, _*_, _<_}
 use native.Mathlib.Nat.{div-eq-of-lt, mod-eq-of-lt}
 use lib.Dec.{ltb}
@@ -10,14 +10,15 @@ use lib.IntN.{ℤ, pos, natAbs}
 use Rattle.whole.specs.Sum.{monoidℕ, sumℕ, upto-cong}
 use Rattle.whole.specs.Tab.{tab, any, all, getD-tab, length-tab}
 use Rattle.model.specs.Set.{at, span, termSizes, generatorSizes}
-use Rattle.model.specs.Valid.{order, isLess, rises, isZero, zeros, constant, occurs, badRange, badOrder}
-use Rattle.model.specs.Limits.{recordIdentifiers}
+use Rattle.model.specs.Valid.{order, isLess, rises, isZero, zeros, factorless, occurs, badRange, badOrder, tooWide}
+use Rattle.model.specs.Limits.{recordIdentifiers, maxSpan}
 use Rattle.zonotope.specs.declared.PolyZonotope.{PolyZonotope}
-use Rattle.arrays.specs.Rows.{row, columnSizes, identifierOut, exponentOut, sum-tab}
+use Rattle.arrays.specs.Rows.{row, columnSizes, spanAt, identifierOut, sum-tab}
 use Rattle.arrays.specs.Spare.{inRows, spareℕ, spareℤ}
-use Rattle.zonotope.specs.Record.{view, spare}
-use Rattle.zonotope.specs.Shape.{Sized}
-use Rattle.whole.specs.Tests.{some-below, each-below, any-places, any-cong, all-cong, any-or}
+use Rattle.zonotope.specs.Record.{view}
+use Rattle.zonotope.specs.Shape.{Lengths}
+use Rattle.zonotope.specs.Causes.{rangeOut, spareIn, orderOut}
+use Rattle.whole.specs.Tests.{some-below, any-places, any-cong, all-cong, any-or}
 use Rattle.arrays.specs.Ascent.{rises-of}
 
 -- a number of a row's used part
@@ -32,9 +33,8 @@ column v xs n i rows f h e =
     ∙ upto-cong 0 _+_ _ _ rows (λ t l. ap (λ r. natAbs (at r i)) (e t) ∙ ap natAbs (row-at xs t n i h))
 
 -- the span of a coordinate
-pub view-span : (s : PolyZonotope) (i : ℕ) → i < s .dimension → span (view s) i ≡
-    natAbs (getD (s .centre) i (pos 0)) + columnSizes (s .coefficients) i (s .terms) + columnSizes (s .vectors) i (s .generators)
-    + getD (s .radii) i 0
+pub view-span : (s : PolyZonotope) (i : ℕ) → i < s .dimension
+    → span (view s) i ≡ spanAt (s .centre) (s .coefficients) (s .vectors) (s .radii) (s .terms) (s .generators) i
 unfolding span view termSizes generatorSizes
 view-span s i h =
     ap₂ _+_ (ap₂ _+_ (ap₂ _+_ (ap natAbs (getD-tab (s .dimension) (λ i. getD (s .centre) i (pos 0)) (pos 0) i h))
@@ -43,32 +43,22 @@ view-span s i h =
     (getD-tab (s .dimension) (λ i. getD (s .radii) i 0) 0 i h)
 
 -- ---- the causes of a refusal
--- 6, 7 and the unused places, as the tests by place decide them
-pub view-range : (s : PolyZonotope) → badRange recordIdentifiers (view s) ≡
-    any identifierOut (tab (s .factors) (λ i. getD (s .identifiers) i 0))
-    || some-below (s .terms) (λ t. any exponentOut (row 12 0 (s .exponents) t (s .factors)))
+-- 6, 7 and 8, as the tests by place decide them
+pub view-range : (s : PolyZonotope)
+    → badRange recordIdentifiers (view s) ≡ rangeOut (s .identifiers) (s .exponents) (s .factors) (s .terms)
 unfolding badRange view
 view-range s = ap (any identifierOut (tab (s .factors) (λ i. getD (s .identifiers) i 0)) ||_) (any-places _ (s .terms) _)
 
--- whether factor j occurs, by place
-abbrev occursAt : List ℕ → ℕ → ℕ → Bool
-occursAt e h j = some-below h (λ t. ltb 0 (getD e (t * 12 + j) 0))
-
 pub view-order : (s : PolyZonotope) → badOrder (view s) ≡
-    not (rises ltb (tab (s .factors) (λ i. getD (s .identifiers) i 0)))
-    || not (rises (λ u v. isLess (order u v)) (tab (s .terms) (λ t. row 12 0 (s .exponents) t (s .factors))))
-    || some-below (s .terms) (λ t. constant (row 12 0 (s .exponents) t (s .factors)))
-    || some-below (s .terms) (λ t. zeros (row 6 (pos 0) (s .coefficients) t (s .dimension)))
-    || some-below (s .generators) (λ g. zeros (row 6 (pos 0) (s .vectors) g (s .dimension)))
-    || not (each-below (s .factors) (occursAt (s .exponents) (s .terms)))
+    orderOut (s .identifiers) (s .exponents) (s .coefficients) (s .vectors) (s .dimension) (s .factors) (s .terms) (s .generators)
 unfolding badOrder view
 view-order s =
     let a = not (rises ltb (tab (s .factors) (λ i. getD (s .identifiers) i 0))) in
     let b = not (rises (λ u v. isLess (order u v)) (tab (s .terms) (λ t. row 12 0 (s .exponents) t (s .factors)))) in
-    let c = some-below (s .terms) (λ t. constant (row 12 0 (s .exponents) t (s .factors))) in
+    let c = some-below (s .terms) (λ t. factorless (row 12 0 (s .exponents) t (s .factors))) in
     let d = some-below (s .terms) (λ t. zeros (row 6 (pos 0) (s .coefficients) t (s .dimension))) in
     ap₂ _||_ (ap₂ _||_ (ap₂ _||_ (ap (λ x. a || not x) (rises-of (λ u v. isLess (order u v)) (λ t. t .exponents) (s .terms) _))
-    (any-or (λ t. constant (t .exponents)) (λ t. zeros (t .coefficients)) _
+    (any-or (λ t. factorless (t .exponents)) (λ t. zeros (t .coefficients)) _
     ∙ ap₂ _||_ (any-places _ (s .terms) _) (any-places _ (s .terms) _))
     ∙ sym (or-assoc (a || b) c d))
     (any-places zeros (s .generators) _))
@@ -76,17 +66,23 @@ view-order s =
     ∙ all-cong _ _ (s .factors) (λ j. j) (λ j l. any-places _ (s .terms) _
     ∙ any-cong _ _ (s .terms) (λ t. t) (λ t m. ap (ltb 0) (getD-tab (s .factors) (λ i. getD (s .exponents) (t * 12 + i) 0) 0 j l)))))
 
+pub view-wide : (s : PolyZonotope) → tooWide (view s) ≡ some-below (s .dimension)
+    (λ i. ltb maxSpan (spanAt (s .centre) (s .coefficients) (s .vectors) (s .radii) (s .terms) (s .generators) i))
+unfolding tooWide view
+view-wide s = any-cong _ _ (s .dimension) (λ i. i) (λ i l. ap (ltb maxSpan) (view-span s i l))
+
 -- the centre is one row of 6
 centre-row : (xs : List ℤ) (k : ℕ) → spareℤ xs 6 (inRows 6 1 k) ≡ spareℤ xs 6 (λ i. ltb i k)
 centre-row xs k =
     any-cong _ _ 6 (λ x. x) (λ x h. ap₂ (λ q r. not (ltb q 1 && ltb r k || isZero (getD xs x (pos 0)))) (div-eq-of-lt h) (mod-eq-of-lt h))
 
-pub view-spare : (s : PolyZonotope) → Sized s →
-    spareℕ (s .identifiers) (length (s .identifiers)) (λ i. ltb i (s .factors))
-    || spareℤ (s .centre) (length (s .centre)) (inRows 6 1 (s .dimension))
-    || spareℕ (s .exponents) (length (s .exponents)) (inRows 12 (s .terms) (s .factors))
-    || spareℤ (s .coefficients) (length (s .coefficients)) (inRows 6 (s .terms) (s .dimension))
-    || spareℤ (s .vectors) (length (s .vectors)) (inRows 6 (s .generators) (s .dimension))
-    || spareℕ (s .radii) (length (s .radii)) (λ i. ltb i (s .dimension)) ≡ spare s
-unfolding spare
-view-spare s z = rw (z .identifiers, z .centre, z .exponents, z .coefficients, z .vectors, z .radii, centre-row (s .centre) (s .dimension))
+-- the unused places of arrays that have their lengths
+module _ (identifiers : List ℕ) (centre : List ℤ) (exponents : List ℕ) (coefficients vectors : List ℤ) (radii : List ℕ) (n p h q : ℕ) where
+  pub spare-places : Lengths identifiers centre exponents coefficients vectors radii →
+      spareℕ identifiers (length identifiers) (λ i. ltb i p)
+      || spareℤ centre (length centre) (inRows 6 1 n)
+      || spareℕ exponents (length exponents) (inRows 12 h p)
+      || spareℤ coefficients (length coefficients) (inRows 6 h n)
+      || spareℤ vectors (length vectors) (inRows 6 q n)
+      || spareℕ radii (length radii) (λ i. ltb i n) ≡ spareIn identifiers centre exponents coefficients vectors radii n p h q
+  spare-places z = rw (z .identifiers, z .centre, z .exponents, z .coefficients, z .vectors, z .radii, centre-row centre n)

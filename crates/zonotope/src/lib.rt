@@ -1,20 +1,16 @@
 // A set in memory: one record by value that holds its own arrays.
 ghost use mathlib.Core.Path.{_≡_};
-ghost use Prim.Native.Nat.{_<_};
-ghost use Rattle.model.specs.Limits.{recordIdentifiers};
-ghost use Rattle.model.specs.Set.{span};
-ghost use Rattle.model.specs.Valid.{badCounts, badRange, badOrder, tooWide};
+ghost use Rattle.model.specs.Valid.{badCounts};
 ghost use Rattle.model.specs.Run.{noSet};
 ghost use Rattle.model.specs.Library.{examine};
-ghost use Rattle.zonotope.specs.Record.{view, pack, spare, given};
-ghost use Rattle.zonotope.specs.Counts.{InLimits};
+ghost use Rattle.zonotope.specs.Record.{view, pack, given};
 ghost use Rattle.zonotope.specs.Shape.{Sized};
 ghost use Rattle.zonotope.specs.Answer.{examined};
 
 pub mod arguments;
+mod causes;
 
-use arrays::rows;
-use arrays::spare;
+use arrays::span;
 
 // Document 01's limits: of the counts and of a coordinate's span.
 pub const MAX_DIMENSION: usize = 6;
@@ -77,101 +73,59 @@ pub fn examine(s: PolyZonotope) -> Examined
     ensures { λ r. ⌜ r ≡ examined (examine (given s)) ⌝ }
     ensures sized { λ r. ⌜ (r ≡ Examined.Accepted → Sized s) ⌝ }
 {
-    if bad_counts(s) {
+    let n = s.dimension;
+    let p = s.factors;
+    let h = s.terms;
+    let q = s.generators;
+    if causes::counts_out(n, p, h, q) {
         return Examined::Refused(4);
     }
-    if bad_range(s) {
+    if causes::range_out(&s.identifiers, &s.exponents, p, h) {
         return Examined::Refused(6);
     }
-    if has_spare(s) | bad_order(s) {
+    if causes::has_spare(
+        &s.identifiers,
+        &s.centre,
+        &s.exponents,
+        &s.coefficients,
+        &s.vectors,
+        &s.radii,
+        n,
+        p,
+        h,
+        q,
+    )
+        | causes::order_out(
+            &s.identifiers,
+            &s.exponents,
+            &s.coefficients,
+            &s.vectors,
+            n,
+            p,
+            h,
+            q,
+        )
+    {
         return Examined::Refused(7);
     }
-    if too_wide(s) {
+    if span::too_wide(
+        &s.centre,
+        &s.coefficients,
+        &s.vectors,
+        &s.radii,
+        n,
+        h,
+        q,
+        MAX_SPAN,
+    ) {
         return Examined::Refused(8);
     }
     Examined::Accepted
 }
 
-// ---- the causes, each a test; a valid set passes through all parts of one, so they are joined by `|`
-
 // 4: whether a count is out of limits.
 pub fn bad_counts(s: PolyZonotope) -> bool
     ensures { λ r. ⌜ r ≡ badCounts (view s) ⌝ }
 {
-    let n = s.dimension;
-    let p = s.factors;
-    let h = s.terms;
-    let q = s.generators;
-    (n == 0) | (MAX_DIMENSION < n) | (MAX_FACTORS < p) | (MAX_TERMS < h) | (MAX_GENERATORS < q)
-}
-
-// 6: whether an identifier or an exponent is out of range.
-pub fn bad_range(s: PolyZonotope) -> bool
-    requires { ⌜ InLimits s ⌝ }
-    ensures { λ r. ⌜ r ≡ badRange recordIdentifiers (view s) ⌝ }
-{
-    let p = s.factors;
-    let h = s.terms;
-    rows::identifiers_out(&s.identifiers, p) | rows::exponents_out(&s.exponents, h, p)
-}
-
-// 7, first: whether a place that the counts leave unused isn't 0.
-pub fn has_spare(s: PolyZonotope) -> bool
-    ensures { λ r. ⌜ (r ≡ spare s) × Sized s ⌝ }
-{
-    let n = s.dimension;
-    let p = s.factors;
-    let h = s.terms;
-    let q = s.generators;
-    spare::after_first(&s.identifiers, p)
-        | spare::outside_numbers(&s.centre, 1, n)
-        | spare::outside_exponents(&s.exponents, h, p)
-        | spare::outside_numbers(&s.coefficients, h, n)
-        | spare::outside_numbers(&s.vectors, q, n)
-        | spare::after_first(&s.radii, n)
-}
-
-// 7, second: whether identifiers or terms don't rise, a term or a generator is zero, a term has no factor or a factor no term.
-pub fn bad_order(s: PolyZonotope) -> bool
-    requires { ⌜ InLimits s ⌝ }
-    ensures { λ r. ⌜ r ≡ badOrder (view s) ⌝ }
-{
-    let n = s.dimension;
-    let p = s.factors;
-    let h = s.terms;
-    let q = s.generators;
-    !rows::identifiers_rise(&s.identifiers, p)
-        | !rows::rows_rise(&s.exponents, h, p)
-        | rows::constant_rows(&s.exponents, h, p)
-        | rows::zero_rows(&s.coefficients, h, n)
-        | rows::zero_rows(&s.vectors, q, n)
-        | !rows::factors_occur(&s.exponents, h, p)
-}
-
-// 8: whether a coordinate's span is too wide.
-pub fn too_wide(s: PolyZonotope) -> bool
-    requires { ⌜ InLimits s ⌝ }
-    ensures { λ r. ⌜ r ≡ tooWide (view s) ⌝ }
-{
-    let n = s.dimension;
-    for i in 0..n {
-        if MAX_SPAN < span(s, i) {
-            return true;
-        }
-    }
-    false
-}
-
-// The span of coordinate i: no point of the set is further from 0.
-pub fn span(s: PolyZonotope, i: usize) -> u64
-    requires { ⌜ InLimits s × (i < s .dimension) ⌝ }
-    ensures { λ r. ⌜ r ≡ span (view s) i ⌝ }
-{
-    let h = s.terms;
-    let q = s.generators;
-    let c = s.centre[i];
-    let r = s.radii[i];
-    let g = rows::column_sizes(&s.coefficients, h, i);
-    let v = rows::column_sizes(&s.vectors, q, i);
-    whole::size_i32(c) + g + v + whole::widen_u32(r)
+    causes::counts_out(s.dimension, s.factors, s.terms, s.generators)
 }

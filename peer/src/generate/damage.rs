@@ -1,6 +1,6 @@
 //! Files that went wrong on the way: cut, with bytes changed, or nothing but noise.
 
-use super::valid::{run, MIXED};
+use super::valid::{prefix, run, MIXED};
 use crate::field::{count_bytes, expected_length};
 use crate::random::Random;
 
@@ -46,6 +46,22 @@ pub fn bytes(random: &mut Random) -> Vec<u8> {
         bytes.push(tag);
         bytes.extend((body.len() as u16).to_le_bytes());
         bytes.extend(body);
+    }
+    bytes
+}
+
+/// After a short run a field with many more bytes than its counts give, all of them or nearly all.
+pub fn long_field(random: &mut Random) -> Vec<u8> {
+    let fields = random.below(3);
+    let mut bytes = prefix(random, &MIXED, fields).bytes;
+    let length = *random.pick(&[2_113, 4_096, 8_192, 32_767, 32_768, 65_534, 65_535]) - random.below(4);
+    bytes.push(if random.once_in(8) { random.word() as u8 } else { 2 + random.below(6) as u8 });
+    bytes.extend((length as u16).to_le_bytes());
+    let there = length - if random.once_in(3) { 1 + random.below(3) } else { 0 };
+    bytes.extend([2; 4]);
+    bytes.resize(bytes.len() - 4 + there, random.word() as u8);
+    if there == length && random.once_in(3) {
+        bytes.extend(noise(random, 9));
     }
     bytes
 }

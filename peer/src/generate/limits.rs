@@ -19,7 +19,7 @@ pub fn at_a_limit(random: &mut Random) -> Vec<u8> {
     let start = set(2, 1, 1, 1);
     let mut body = plain_set(2, 1, 1, 1);
     let mut step = zero_step(2, 2);
-    let fields = match random.below(20) {
+    let fields = match random.below(25) {
         0 => {
             body.terms[0].exponents[0] = near(MAX_EXPONENT as usize) as u32;
             vec![start, Field::Tied(body)]
@@ -80,6 +80,42 @@ pub fn at_a_limit(random: &mut Random) -> Vec<u8> {
             body.terms[0].coefficients[0] = 9_000;
             vec![Field::Start(body), Field::Step(step)]
         }
+        19 => {
+            let mut body = plain_set(2, 1 + random.below(MAX_FACTORS), 1 + random.below(MAX_TERMS), 1);
+            if let Some(last) = body.terms.last_mut().and_then(|term| term.exponents.last_mut()) {
+                *last = near(MAX_EXPONENT as usize) as u32;
+            }
+            vec![start, given(random, body)]
+        }
+        20 => {
+            let mut body = plain_set(2, 2, 3, 2);
+            widen_to(random, &mut body, SPAN_LIMIT + by);
+            if random.once_in(3) {
+                vec![Field::Start(body)]
+            } else {
+                vec![set(2, 0, 0, 0), given(random, body)]
+            }
+        }
+        21 => {
+            let mut current = plain_set(2, 2, 3, 2);
+            widen_to(random, &mut current, SPAN_LIMIT / 2);
+            let mut body = current.clone();
+            widen_to(random, &mut body, SPAN_LIMIT / 2 + by);
+            vec![Field::Start(current), given(random, body)]
+        }
+        22 => {
+            let mut current = plain_set(2, 1, 2, 1);
+            widen_to(random, &mut current, 1_000);
+            (0..2).for_each(|i| step.matrix[i][i] = UNIT);
+            step.constant = current.centre.iter().map(|k| sign_of(*k) * (SPAN_LIMIT + by - 1_000)).collect();
+            vec![Field::Start(current), Field::Step(step)]
+        }
+        23 => {
+            let (first, shared) = (1 + random.below(11), random.below(2));
+            let mut body = plain_set(1, near(MAX_FACTORS) - first + shared, 1, 0);
+            body.identifiers.iter_mut().for_each(|id| *id += (first - shared) as i128);
+            vec![set(1, first, 1, 0), Field::Tied(body)]
+        }
         _ => {
             let mut dense = zero_step(MAX_DIMENSION, MAX_DIMENSION);
             dense.forms.iter_mut().flatten().flatten().for_each(|q| *q = random.between(-UNIT, UNIT));
@@ -91,10 +127,65 @@ pub fn at_a_limit(random: &mut Random) -> Vec<u8> {
     fields.iter().flat_map(Field::encode).collect()
 }
 
+fn given(random: &mut Random, body: Set) -> Field {
+    if random.once_in(2) {
+        Field::Tied(body)
+    } else {
+        Field::Independent(body)
+    }
+}
+
+/// Widens each coordinate to this span in one of its parts, the way the part points already.
+fn widen_to(random: &mut Random, set: &mut Set, span: i128) {
+    for i in 0..set.dimension() {
+        let more = (span - set.span(i)).max(0);
+        let part = match random.below(4) {
+            0 => &mut set.centre[i],
+            1 => &mut set.radii[i],
+            2 => &mut set.terms[0].coefficients[i],
+            _ => &mut set.generators[0][i],
+        };
+        *part += sign_of(*part) * more;
+    }
+}
+
+fn sign_of(number: i128) -> i128 {
+    if number < 0 {
+        -1
+    } else {
+        1
+    }
+}
+
 /// A start set and so many fields after it that change nothing.
 pub fn full(fields: usize) -> Vec<u8> {
     let reduce = Field::Reduce(Limits { terms: MAX_TERMS, generators: MAX_GENERATORS });
     [Field::Start(plain_set(1, 1, 1, 0)).encode(), reduce.encode().repeat(fields)].concat()
+}
+
+/// A start set and so many fields after it, of kinds that leave a set as wide as it was or wider by a little.
+pub fn plain_run(random: &mut Random, fields: usize) -> Vec<u8> {
+    let n = 1 + random.below(2);
+    let mut bytes = Field::Start(plain_set(n, 1, 2, 1)).encode();
+    let mut same = zero_step(n, n);
+    (0..n).for_each(|i| same.matrix[i][i] = UNIT);
+    for _ in 0..fields {
+        let field = match random.below(5) {
+            0 => Field::Reduce(Limits {
+                terms: 1 + random.below(MAX_TERMS),
+                generators: 1 + random.below(MAX_GENERATORS),
+            }),
+            1 => Field::Disturbance((0..n).map(|_| random.between(0, 3)).collect()),
+            2 => Field::Step(same.clone()),
+            3 => Field::Tied(plain_set(n, 0, 0, 0)),
+            _ => {
+                let normal = (0..n).map(|_| random.between(-2, 2)).collect();
+                Field::Check(vec![Halfspace { normal, bound: -random.between(0, 20_000) }])
+            }
+        };
+        bytes.extend(field.encode());
+    }
+    bytes
 }
 
 /// A set of the given counts, in limits or not, with all numbers 1 and zero centre and radii.

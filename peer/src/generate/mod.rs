@@ -1,6 +1,7 @@
 //! Run files to try programs with, the same for a kind and seed on every machine.
 
 mod aimed;
+mod close;
 mod damage;
 mod faults;
 mod limits;
@@ -8,15 +9,18 @@ mod parts;
 mod valid;
 
 use crate::random::Random;
+use crate::run::MAX_FIELDS;
 
 pub struct Kind {
     pub name: &'static str,
     pub about: &'static str,
+    /// Its files have thousands of fields: fewer of them will do.
+    pub long: bool,
     make: fn(&mut Random) -> Vec<u8>,
 }
 
 /// The kinds whose files a run accepts to the end.
-pub const VALID: [Kind; 10] = [
+pub static VALID: [Kind; 13] = [
     kind("mixed", "valid: fields of all kinds", |r| valid::run(r, &valid::MIXED)),
     kind("sharp", "valid: terms alone, no generators or radii", |r| valid::run(r, &valid::SHARP)),
     kind("terms", "valid: steps on many terms, folding by size", |r| valid::run(r, &valid::TERMS)),
@@ -26,11 +30,14 @@ pub const VALID: [Kind; 10] = [
     kind("dimensions", "valid: steps that change the dimension", |r| valid::run(r, &valid::DIMENSIONS)),
     kind("sums", "valid: many independent sums, with factors dropped in between", |r| valid::run(r, &valid::SUMS)),
     kind("wide", "valid: spans near 1,048,576", |r| valid::run(r, &valid::WIDE)),
-    kind("long", "valid: 4,096 fields after the start", |r| valid::run(r, &valid::LONG)),
+    kind("ties", "valid: reductions among equal sizes, where weights and places decide", close::ties),
+    kind("halves", "valid: steps among powers of two, where many numbers are exact halves", close::halves),
+    long("long", "valid: 4,097 fields of all kinds, the most that a run may have", |r| valid::run(r, &valid::LONG)),
+    long("plain-4097", "valid: as many fields that change little", |r| limits::plain_run(r, MAX_FIELDS)),
 ];
 
 /// The kinds whose files are refused with the number in their name.
-pub const REFUSED: [Kind; 11] = [
+pub static REFUSED: [Kind; 11] = [
     kind("refusal-1", "input that ends inside a field, or is empty", |r| aimed::refused(r, 1)),
     kind("refusal-2", "an unknown or misplaced tag", |r| aimed::refused(r, 2)),
     kind("refusal-3", "a length that the counts don't give", |r| aimed::refused(r, 3)),
@@ -44,16 +51,23 @@ pub const REFUSED: [Kind; 11] = [
     kind("refusal-12", "a field after the last that may follow", |r| aimed::refused(r, 12)),
 ];
 
-pub const OTHERS: [Kind; 5] = [
+pub static OTHERS: [Kind; 8] = [
+    long("plain-4098", "one field more than a run may have", |r| limits::plain_run(r, MAX_FIELDS + 1)),
     kind("order", "several causes of refusal in one field", aimed::several_causes),
     kind("limits", "a number or count at a limit or one beyond", limits::at_a_limit),
+    kind("folds", "odd folds in sets as wide as can be", close::odd_folds),
+    kind("lengths", "a field that states up to 65,535 bytes, which are there or not quite", damage::long_field),
     kind("cut", "a valid file cut somewhere", damage::cut),
     kind("damaged", "a valid file with bytes changed, lost or added", damage::damaged),
     kind("bytes", "random bytes, or random bodies under good headers", damage::bytes),
 ];
 
 const fn kind(name: &'static str, about: &'static str, make: fn(&mut Random) -> Vec<u8>) -> Kind {
-    Kind { name, about, make }
+    Kind { name, about, long: false, make }
+}
+
+const fn long(name: &'static str, about: &'static str, make: fn(&mut Random) -> Vec<u8>) -> Kind {
+    Kind { long: true, ..kind(name, about, make) }
 }
 
 impl Kind {

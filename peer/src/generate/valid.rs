@@ -77,6 +77,11 @@ impl Builder {
         Builder { bytes: Vec::new(), state: State::empty() }
     }
 
+    /// The current set; one of no coordinates if there is none.
+    pub fn set(&self) -> Set {
+        self.state.set.clone().unwrap_or_default()
+    }
+
     /// Writes the field if it is accepted.
     pub fn add(&mut self, field: &Field) -> bool {
         match apply(field, &self.state) {

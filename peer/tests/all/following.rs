@@ -11,7 +11,7 @@ use peer::sums::tied_sum;
 #[test]
 fn no_motion_escapes_from_generated_runs() {
     for kind in &VALID {
-        for seed in 0..if kind.name == "long" { 1 } else { 12 } {
+        for seed in 0..if kind.long { 1 } else { 12 } {
             let report = follow(&kind.file(seed), 8, seed);
             assert!(!report.escaped, "{} {seed}\n{}", kind.name, report.text);
         }

@@ -2,15 +2,18 @@
 
 use std::collections::BTreeSet;
 
+use peer::field::Field;
+use peer::finish::size;
 use peer::generate::{kinds, Kind, REFUSED, VALID};
 use peer::random::Random;
 use peer::run::{Accepted, Outcome, Refusal, Run, FIRST_MARK, MAX_FIELDS};
 use peer::set::{MAX_EXPONENT, MAX_FACTORS, MAX_GENERATORS, MAX_TERMS, SPAN_LIMIT};
+use peer::step::{dot, ROUND, UNIT};
 
 const SEEDS: u64 = 40;
 
 fn seeds(kind: &Kind) -> std::ops::Range<u64> {
-    0..if kind.name == "long" { 2 } else { SEEDS }
+    0..if kind.long { 2 } else { SEEDS }
 }
 
 fn run(bytes: &[u8]) -> (Vec<Accepted>, Option<Refusal>) {
@@ -52,7 +55,9 @@ fn valid_kinds_run_to_the_end() {
             assert!(accepted.len() > 3, "{} {seed}", kind.name);
         }
     }
-    assert_eq!(run(&kind("long").file(0)).0.len(), 1 + MAX_FIELDS);
+    for kind in VALID.iter().filter(|kind| kind.long) {
+        assert_eq!(run(&kind.file(0)).0.len(), 1 + MAX_FIELDS);
+    }
 }
 
 #[test]
@@ -90,6 +95,54 @@ fn valid_kinds_reach_deep() {
     assert_eq!(fullest, [MAX_FACTORS, MAX_TERMS, MAX_GENERATORS]);
     assert_eq!((highest_exponent, widest), (MAX_EXPONENT, SPAN_LIMIT));
     assert!(highest_mark > FIRST_MARK + 500, "{highest_mark}");
+}
+
+/// A set's terms and generators before a reduction that folds some, as (size by weight, plain size).
+fn reduced(name: &str) -> Vec<Vec<(i128, i128)>> {
+    let mut lists = Vec::new();
+    for seed in 0..SEEDS {
+        for fields in run(&kind(name).file(seed)).0.windows(2) {
+            if let ([before, after], 6) = (fields, fields[1].field.tag()) {
+                let sizes = |numbers: &[i128]| (size(numbers), numbers.iter().map(|v| v.abs()).sum());
+                if after.folds.by_size > 0 {
+                    lists.push(before.set.terms.iter().map(|t| sizes(&t.coefficients)).collect());
+                }
+                if after.folds.generators > 0 {
+                    lists.push(before.set.generators.iter().map(|g| sizes(g)).collect());
+                }
+            }
+        }
+    }
+    lists
+}
+
+#[test]
+fn ties_have_equal_sizes_of_unequal_numbers() {
+    let lists = reduced("ties");
+    let decided_by_weight = |list: &&Vec<(i128, i128)>| {
+        list.iter().any(|(size, plain)| list.iter().any(|(other, other_plain)| size == other && plain != other_plain))
+    };
+    assert!(lists.len() > 20, "{}", lists.len());
+    assert!(2 * lists.iter().filter(decided_by_weight).count() > lists.len());
+}
+
+#[test]
+fn halves_have_numbers_at_exact_halves() {
+    let mut halves = 0;
+    for seed in 0..SEEDS {
+        for fields in run(&kind("halves").file(seed)).0.windows(2) {
+            if let Field::Step(step) = &fields[1].field {
+                let set = &fields[0].set;
+                for (row, form) in step.matrix.iter().zip(&step.forms) {
+                    let linear = UNIT * dot(row, &set.centre);
+                    let centre: i128 =
+                        linear + form.iter().zip(&set.centre).map(|(q, k)| k * dot(q, &set.centre)).sum::<i128>();
+                    halves += usize::from(centre.rem_euclid(ROUND) == ROUND / 2);
+                }
+            }
+        }
+    }
+    assert!(halves > 10, "{halves}");
 }
 
 #[test]
@@ -140,6 +193,9 @@ fn endings(name: &str, seeds: u64) -> BTreeSet<u8> {
 fn other_kinds_end_in_every_way_they_can() {
     assert!(endings("order", 400).is_superset(&[1, 2, 3, 4, 5, 6, 7, 8, 9, 12].into()));
     assert!(endings("limits", 400).is_superset(&[0, 4, 6, 8, 9, 10, 12].into()));
+    assert!(endings("folds", 200).is_superset(&[0, 10].into()));
+    assert!(endings("lengths", 200).is_superset(&[1, 2, 3].into()));
+    assert_eq!(endings("plain-4098", 2), [12].into());
     assert!(endings("cut", 200).is_superset(&[0, 1].into()));
     assert!(endings("damaged", 200).is_superset(&[0, 1, 2, 3, 6, 7, 8].into()));
     assert!(endings("bytes", 200).is_superset(&[1, 2, 3, 4, 6, 7].into()));

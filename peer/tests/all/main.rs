@@ -2,6 +2,7 @@
 
 mod commands;
 mod common;
+mod comparing;
 mod document01;
 mod examples;
 mod following;
@@ -9,3 +10,4 @@ mod generator;
 mod plans;
 mod readings;
 mod refusals;
+mod workloads;

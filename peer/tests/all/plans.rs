@@ -8,7 +8,7 @@ use peer::show::show;
 #[test]
 fn any_bytes_come_back_from_their_plan() {
     for kind in kinds() {
-        for seed in 0..if kind.name == "long" { 1 } else { 25 } {
+        for seed in 0..if kind.long { 1 } else { 25 } {
             let bytes = kind.file(seed);
             let plan = show(&bytes);
             assert!(run_file(&plan) == bytes, "{} {seed}\n{plan}", kind.name);

@@ -4,7 +4,7 @@ use lib.ListN.{length}
 use Rattle.whole.specs.Tab.{any}
 use Rattle.model.specs.Bytes.{words}
 use Rattle.model.specs.Field.{negative}
-use Rattle.bodies.specs.Set.{radiiFrom, Laid}
+use Rattle.bodies.specs.Set.{radiiFrom, SetLaid}
 use Rattle.bodies.specs.Filled.{laid, in-limits}
 use native.Mathlib.Omega.{arith}
 use borrow.Author.Needs.{needs}
@@ -20,7 +20,7 @@ radii-from-requires c κs = rw (c .set-counts .ensures) (in-limits _ (c .before 
 any-negative-requires : tie.Need-any-negative-requires
 any-negative-requires c κs =
     let s = c .before .before .before in
-    let h : Laid (c .before .set-counts .result) (length (s .args .b .now)) = rw (c .before .set-counts .ensures) (laid _ (s .pre)) in
+    let h : SetLaid (c .before .set-counts .result) (length (s .args .b .now)) = rw (c .before .set-counts .ensures) (laid _ (s .pre)) in
     omega (arith, c .radii-from .ensures, h .long)
 
 returns : tie.Need-returns

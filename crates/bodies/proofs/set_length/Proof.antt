@@ -1,8 +1,7 @@
 -- `bodies::set_length` meets its contract.
-use mathlib.Core.Path.{ap}
+use mathlib.Core.Path.{ap, _∙_}
 use Prim.Native.Nat.{_+_, _*_}
 use Rattle.bodies.specs.Set.{radiiFrom, InLimits}
-use mathlib.Core.Path.{_∙_}
 use Rattle.bodies.specs.Filled.{in-limits, terms-small, generators-small}
 use native.Mathlib.Omega.{arith}
 use borrow.Author.Needs.{needs}

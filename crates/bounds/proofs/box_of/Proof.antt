@@ -1,6 +1,5 @@
--- `box_of` meets its contract: the ends are those along the axes.
+-- `box_of` meets its contract.
 use borrow.Author.Needs.{needs}
-use native.Mathlib.Omega.{arith}
 use mathlib.Core.Path.{_≡_, sym, _∙_}
 use Rattle.zonotope.specs.Record.{view}
 use Rattle.zonotope.specs.Record.{given}
@@ -9,8 +8,6 @@ use Rattle.zonotope.specs.Valid.{valid}
 use Rattle.zonotope.specs.Answer.{accepted, refused-with}
 use Rattle.model.specs.Library.{examine}
 use mathlib.Core.Option.{none}
-use Rattle.bounds.specs.Box.{low-axis, high-axis}
-use Rattle.bounds.specs.Six.{six-cong}
 use Rattle.bounds.specs.Answer.{boundsOf, box-accepted, box-refused}
 use Rattle.bounds.proofs.box_of.Statement.{statement}
 use Rattle.bounds.proofs.box_of.Tie as tie
@@ -31,11 +28,8 @@ enum-told c = search needs
 enum-told-2 : tie.Need-enum-told-2
 enum-told-2 c = search needs
 
-ends-requires : tie.Need-ends-requires
-ends-requires c κs = (limits c, omega arith)
-
-ends-requires-2 : tie.Need-ends-requires-2
-ends-requires-2 c κs = (limits (c .before), omega arith)
+ends-of-requires : tie.Need-ends-of-requires
+ends-of-requires c κs = limits c
 
 returns : tie.Need-returns
 unfolding boundsOf
@@ -47,11 +41,10 @@ returns c =
 returns-2 : tie.Need-returns-2
 unfolding boundsOf view
 returns-2 c =
-    let s = c .before .before in
+    let e = c .before .before in
+    let s = e .before in
     let set = view (s .before .before .before .args .s) in
-    box-accepted set _ (no-cause s) (s .before .before .examine .ensures .0)
-    (c .before .ends .ensures ∙ six-cong _ _ _ (λ i l h. low-axis set i l h))
-    (c .ends2 .ensures ∙ six-cong _ _ _ (λ i l h. high-axis set i l h))
+    box-accepted set _ (no-cause s) (s .before .before .examine .ensures .0) (e .ends-of .ensures .0) (e .ends-of .ensures .1)
 
 pub box-of-spec : {M : Type 1} → statement M
 box-of-spec =
@@ -60,7 +53,6 @@ box-of-spec =
     examine-requires
     enum-told
     enum-told-2
-    ends-requires
-    ends-requires-2
+    ends-of-requires
     returns
     returns-2)

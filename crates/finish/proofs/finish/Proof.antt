@@ -37,9 +37,12 @@ returns c =
     let t = c .before .before in
     let a = t .before .before .before .before .before .before .before .before .before in
     let s = a .before .before .before .before .before .before .before .before in
-    ap (λ (r : PolyZonotope). record { narrow = false; set = r }) (c .empty .ensures)
-    ∙ refused (s .args .weights) (s .args .term-limit) (s .args .generator-limit) (a .reduce .ensures) (s .pre .1)
-    (sym (t .too-wide .ensures _ _) ∙ c .before .if1 .taken)
+    let k = a .reduce .kept in (
+      ap (λ (r : PolyZonotope). record { narrow = false; set = r }) (c .empty .ensures)
+          ∙ refused (s .args .weights) (s .args .term-limit) (s .args .generator-limit) (a .reduce .ensures) (s .pre .1)
+          (sym (t .too-wide .ensures _ _) ∙ c .before .if1 .taken),
+      (k .1 .1 .1 .0, (k .1 .1 .1 .1 .0, (k .1 .1 .1 .1 .1 .0, k .1 .1 .1 .1 .1 .1 .0))),
+    )
 
 pack-requires : tie.Need-pack-requires
 pack-requires c κs =
@@ -66,8 +69,11 @@ returns-2 c =
     let t = c .before .before .before .before .before in
     let a = t .before .before .before .before .before .before .before .before .before in
     let s = a .before .before .before .before .before .before .before .before in
-    accepted (s .args .weights) (s .args .term-limit) (s .args .generator-limit) (a .reduce .ensures) (s .pre .1)
-    (sym (t .too-wide .ensures _ _) ∙ c .before .before .before .before .if1 .left) (c .pack .ensures)
+    let k = a .reduce .kept in (
+      accepted (s .args .weights) (s .args .term-limit) (s .args .generator-limit) (a .reduce .ensures) (s .pre .1)
+          (sym (t .too-wide .ensures _ _) ∙ c .before .before .before .before .if1 .left) (c .pack .ensures),
+      (k .1 .1 .1 .0, (k .1 .1 .1 .1 .0, (k .1 .1 .1 .1 .1 .0, k .1 .1 .1 .1 .1 .1 .0))),
+    )
 
 pub finish-spec : {M : Type 1} → statement M
 finish-spec =

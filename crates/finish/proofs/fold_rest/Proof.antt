@@ -15,7 +15,7 @@ fold-terms-requires : tie.Need-fold-terms-requires
 fold-terms-requires c κs =
     let a = c .before .before .before .before .before .before .before in
     let s = a .before .before .before .before .before .before .before in
-    let v = a .fold-high .ensures in (
+    let v = a .fold-high .ensures .0 in (
       v .ready,
       s .pre .1 .weights-small,
       small-mono (centre-after 860 (v .bounded) (s .pre .0 .few) (s .pre .1 .centre-small)) (omega arith),
@@ -27,8 +27,8 @@ fold-generators-requires c κs =
     let b = c .before .before .before .before .before .before in
     let a = b .before .before .before .before .before .before .before .before in
     let s = a .before .before .before .before .before .before .before in
-    let v = a .fold-high .ensures in
-    let w = b .fold-terms .ensures .0 in
+    let v = a .fold-high .ensures .0 in
+    let w = b .fold-terms .ensures .0 .0 in
     let few = s .pre .1 .generators-few in (
       omega (arith, few),
       s .pre .1 .generators-long,
@@ -55,9 +55,9 @@ returns c =
     let b = d .before .before .before .before .before .before .before in
     let a = b .before .before .before .before .before .before .before .before in
     let s = a .before .before .before .before .before .before .before in
-    let v = a .fold-high .ensures in
-    let w = b .fold-terms .ensures in
-    let x = d .fold-generators .ensures in
+    let v = a .fold-high .ensures .0 in
+    let w = b .fold-terms .ensures .0 in
+    let x = d .fold-generators .ensures .0 in
     let terms-few = w .1 in
     let generators-few = x .1 in
     rest-holds (s .args .u) (s .args .heads .now) (s .args .s .now) (s .args .g .now) (s .args .weights) (s .args .term-limit)

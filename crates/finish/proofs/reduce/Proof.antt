@@ -17,7 +17,7 @@ fold-rest-requires c κs =
     let b = c .before .before .before .before in
     let a = b .before .before .before .before .before .before .before in
     let s = a .before .before .before .before .before .before .before in
-    let z = b .drop-zero-rows .ensures in
+    let z = b .drop-zero-rows .ensures .0 in
     let few = s .pre .generators-few in
     let long = s .pre .generators-long in (
       a .gather .ensures .ready,
@@ -54,7 +54,7 @@ returns c =
     let g = s .args in
     holds-as (d .fold-rest .ensures)
     (reduced-from (g .u) (coreOf (g .u .centre) (g .u .radii)) _ _ (g .weights) (g .generator-limit) (g .term-limit)
-    (a .gather .ensures .is) (b .drop-zero-rows .ensures .1))
+    (a .gather .ensures .is) (b .drop-zero-rows .ensures .0 .1))
 
 pub reduce-spec : {M : Type 1} → statement M
 reduce-spec =

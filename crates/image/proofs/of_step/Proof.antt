@@ -1,7 +1,7 @@
 -- `image::of_step` meets its contract: the step on six coordinates, and its image.
 use borrow.Author.Needs.{needs}
 use Rattle.model.specs.Step.{Step}
-use Rattle.forms.specs.Wide.{Shaped, constant-small, linear-small, quadratic-small}
+use Rattle.forms.specs.Wide.{StepShaped, constant-small, linear-small, quadratic-small}
 use Rattle.image.specs.StepAccepted.{stepOf, shaped, entries-small}
 use Rattle.image.specs.Imaged.{imaged-narrow}
 use Rattle.image.proofs.of_step.Statement.{statement}
@@ -11,7 +11,7 @@ module _ (z : tie.Start) where
   abbrev P : Step
   P = stepOf (z .args .m) (z .args .n) (z .args .c .now) (z .args .a .now) (z .args .q .now)
 
-  shape : Shaped P
+  shape : StepShaped P
   shape = shaped P (z .pre .0)
 
 wide-constant-requires : tie.Need-wide-constant-requires

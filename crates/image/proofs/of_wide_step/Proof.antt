@@ -2,7 +2,7 @@
 use native.Mathlib.Omega.{arith}
 use borrow.Author.Needs.{needs}
 use Rattle.zonotope.specs.declared.PolyZonotope.{PolyZonotope}
-use Rattle.raw.specs.Accepted.{Accepted}
+use Rattle.raw.specs.Accepted.{InSpan}
 use Rattle.raw.specs.Unused.{counts-in}
 use Rattle.raw.specs.Append.{small-bounded}
 use Rattle.image.specs.Rounding.{bounded-mono}
@@ -15,7 +15,7 @@ module _ (z : tie.Start) where
   abbrev S : PolyZonotope
   S = z .args .s
 
-  ok : Accepted S
+  ok : InSpan S
   ok = z .pre .3
 
 all-rows-requires : tie.Need-all-rows-requires

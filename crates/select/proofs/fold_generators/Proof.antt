@@ -2,7 +2,7 @@
 use borrow.Author.Needs.{needs}
 use mathlib.Core.List.{List}
 use mathlib.Core.Bool.{Bool, false}
-use mathlib.Core.Path.{sym, ap, ap₂, _∙_}
+use mathlib.Core.Path.{refl, sym, ap, ap₂, _∙_}
 use lib.IntN.{ℤ}
 use Rattle.whole.specs.Tab.{tab}
 use Rattle.model.specs.Finish.{Core, size, foldVector, foldGenerator}
@@ -18,13 +18,17 @@ use Rattle.select.proofs.fold_generators.Tie as tie
 returns : tie.Need-returns
 returns c =
     let s = c .before in (
-      record {
-        is = few-left (size (s .args .weights)) foldGenerator (numberRow (s .args .g .now)) (s .args .limit) (s .args .n) _ (c .if1 .taken);
-        fewer = search needs;
-        small = s .pre .2;
-        bounded = bounded-none _ _ _;
-      },
-      c .if1 .taken,
+      (
+        record {
+          is = few-left (size (s .args .weights)) foldGenerator (numberRow (s .args .g .now)) (s .args .limit) (s .args .n) _
+              (c .if1 .taken);
+          fewer = search needs;
+          small = s .pre .2;
+          bounded = bounded-none _ _ _;
+        },
+        c .if1 .taken,
+      ),
+      refl,
     )
 
 mark-smallest-requires : tie.Need-mark-smallest-requires
@@ -51,16 +55,19 @@ returns-2 c =
     ap₂ (λ (x : Core) (l : List (List ℤ)). record { core = x; kept = l })
     (folded-as (g .g .now) (marks .mark-smallest .result) _ (g .centre) (g .radii) v (λ k. foldGenerator (row k))
     (λ k h x. ap (λ (b : Bool). foldVector b (row k) x) (same-at false 860 k)))
-    (rows .keep-rows .ensures .1)
+    (rows .keep-rows .ensures .0 .1)
     ∙ sym (until-parted (size (g .weights)) foldGenerator generator-swap row (g .limit) (g .n) _ (marks .mark-smallest .ensures)) in (
-      record {
-        is = p;
-        fewer = rows .keep-rows .ensures .0;
-        small = rows .keep-rows .ensures .2 _ (marks .before .before .before .pre .2);
-        bounded = record { centre = v .centre-small; radii = v .radii-small };
-      },
-      left-within (size (g .weights)) foldGenerator generator-swap (g .limit) (coreOf (g .centre) (g .radii)) (tab (g .n) row)
-          (rows .keep-rows .result) (numberRow (rows .keep-rows .last .0)) p,
+      (
+        record {
+          is = p;
+          fewer = rows .keep-rows .ensures .0 .0;
+          small = rows .keep-rows .ensures .0 .2 _ (marks .before .before .before .pre .2);
+          bounded = record { centre = v .centre-small; radii = v .radii-small };
+        },
+        left-within (size (g .weights)) foldGenerator generator-swap (g .limit) (coreOf (g .centre) (g .radii)) (tab (g .n) row)
+            (rows .keep-rows .result) (numberRow (rows .keep-rows .last .0)) p,
+      ),
+      rows .keep-rows .ensures .1,
     )
 
 pub fold-generators-spec : {M : Type 1} → statement M

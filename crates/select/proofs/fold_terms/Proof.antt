@@ -1,5 +1,8 @@
 -- `select::fold_terms` meets its contract: what was marked lies below a bar.
 use borrow.Author.Needs.{needs}
+use Prim.Native.Nat.{_*_}
+use mathlib.Core.Path.{refl}
+use Rattle.rows.specs.WorkSpace.{open-from}
 use Rattle.select.specs.Stage.{passed-as, bounded-none, terms-parted, terms-few, terms-within}
 use Rattle.select.proofs.fold_terms.Statement.{statement}
 use Rattle.select.proofs.fold_terms.Tie as tie
@@ -7,14 +10,17 @@ use Rattle.select.proofs.fold_terms.Tie as tie
 returns : tie.Need-returns
 returns c =
     let s = c .before .before .before in (
-      record {
-        is = terms-few (s .args .e .now) (s .args .heads .now) (s .args .s .now) (s .args .n) _ (s .args .weights) (s .args .limit)
-            (c .if1 .taken);
-        fewer = search needs;
-        ready = s .pre .0;
-        bounded = bounded-none _ _ _;
-      },
-      c .if1 .taken,
+      (
+        record {
+          is = terms-few (s .args .e .now) (s .args .heads .now) (s .args .s .now) (s .args .n) _ (s .args .weights) (s .args .limit)
+              (c .if1 .taken);
+          fewer = search needs;
+          ready = s .pre .0;
+          bounded = bounded-none _ _ _;
+        },
+        c .if1 .taken,
+      ),
+      (refl, refl),
     )
 
 mark-smallest-requires : tie.Need-mark-smallest-requires
@@ -35,11 +41,17 @@ returns-2 c =
     let marks = parts .before .before .before .before in
     let s = marks .before .before .before .before .before in
     let e = s .args .e .now in
+    let p = parts .part-terms in
     let v =
-    passed-as (parts .part-terms .ensures)
+    passed-as (p .ensures)
     (terms-parted e (s .args .heads .now) (s .args .s .now) (s .args .n) _ (s .args .weights) (s .args .limit)
-    (marks .mark-smallest .ensures)) in
-    (v, terms-within e (s .args .heads .now) (s .args .s .now) (s .args .n) _ (s .args .weights) (s .args .limit) _ _ _ (v .is))
+    (marks .mark-smallest .ensures)) in (
+      (v, terms-within e (s .args .heads .now) (s .args .s .now) (s .args .n) _ (s .args .weights) (s .args .limit) _ _ _ (v .is)),
+      (
+        open-from (p .result .count) (s .args .heads .now) (p .last .1 .0) (p .kept .1 .0),
+        open-from (p .result .count * 6) (s .args .s .now) (p .last .1 .1 .0) (p .kept .1 .1 .0),
+      ),
+    )
 
 pub fold-terms-spec : {M : Type 1} → statement M
 fold-terms-spec =

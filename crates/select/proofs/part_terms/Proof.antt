@@ -33,11 +33,11 @@ returns c =
     record {
       is = terms-passed (s .args .e .now) (s .args .heads .now) _ (s .args .s .now) _ (s .args .n) (rows .keep-rows .result)
           (places .keep-places .result)
-          (s .args .gone .now) (marks .mark .result) (marks .mark .ensures) v (places .keep-places .ensures .1)
-          (rows .keep-rows .ensures .1);
-      fewer = rows .keep-rows .ensures .0;
-      ready = ready-after (s .pre .0) (rows .keep-rows .ensures .0) (places .keep-places .kept .0) (rows .keep-rows .kept .0)
-          (places .keep-places .ensures .2 (s .args .e .now) (s .pre .0 .rows)) (rows .keep-rows .ensures .2 _ (s .pre .0 .small));
+          (s .args .gone .now) (marks .mark .result) (marks .mark .ensures) v (places .keep-places .ensures .0 .1)
+          (rows .keep-rows .ensures .0 .1);
+      fewer = rows .keep-rows .ensures .0 .0;
+      ready = ready-after (s .pre .0) (rows .keep-rows .ensures .0 .0) (places .keep-places .kept .0) (rows .keep-rows .kept .0)
+          (places .keep-places .ensures .0 .2 (s .args .e .now) (s .pre .0 .rows)) (rows .keep-rows .ensures .0 .2 _ (s .pre .0 .small));
       bounded = record { centre = v .centre-small; radii = v .radii-small };
     }
 

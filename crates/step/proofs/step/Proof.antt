@@ -72,7 +72,9 @@ clear-numbers-requires : tie.Need-clear-numbers-requires
 clear-numbers-requires c κs = omega (arith, room (c .before .before .before .before .before .before .before) .numbers-room)
 
 clear-exponents-requires : tie.Need-clear-exponents-requires
-clear-exponents-requires c κs = omega (arith, room (c .before .before .before .before .before .before .before .before .before .before) .exponents-room)
+clear-exponents-requires c κs =
+    let i = c .before .before .before .before .before .before .before .before .before .before in
+    omega (arith, room i .exponents-room)
 
 settle-requires : tie.Need-settle-requires
 settle-requires c κs = search needs
@@ -91,13 +93,15 @@ returns-2 c =
     let s = start i in
     let x = i .before .before .before-stepping .ensures in
     let number = stepRefusal (short s) (asked s) (read s) in
-    let done = was-worked (short s) (asked s) (read s) (x .0) (passes i) in (
+    let done = was-worked (short s) (asked s) (read s) (x .0) (passes i) in
+    let image = f .image-finished .ensures in
+    let kept = f .image-finished .kept in (
       answer-next (beforeStepping (short s) (asked s) (read s)) (ofResult (result s)) (x .0) (step-order (short s) (asked s) (read s))
-          (s .args .s) (result s) (passes i) (settled-result (s .args .s) (result s) (c .settle .ensures) (f .image-finished .ensures .0)),
+          (s .args .s) (result s) (passes i) (settled-result (s .args .s) (result s) (c .settle .ensures) (image .0)),
       (
-        left-cleared (pos 0) workNumbers (s .args .w .now) number done (f .image-finished .ensures .1 .0) (omega (arith, f .image-finished .kept))
+        left-cleared (pos 0) workNumbers (s .args .w .now) number done (image .1 .0) (omega (arith, kept))
             (n .clear-numbers .ensures),
-        left-cleared 0 workExponents (s .args .e .now) number done (f .image-finished .ensures .1 .1) (omega (arith, f .image-finished .kept))
+        left-cleared 0 workExponents (s .args .e .now) number done (image .1 .1) (omega (arith, kept))
             (c .before .before .before .clear-exponents .ensures),
       ),
     )

@@ -45,7 +45,7 @@ returns c =
     let f = c .before .before .before .before in
     let s = f .before .before .before .before .before .before in
     let a = s .args in
-    f .finish .ensures
+    f .finish .ensures .0
     ∙ ap (λ n. finishedAs (finish standardWeights 40 24 (held (a .u) (a .e .now) (a .c .now) n (a .g .now) (a .generators))))
     (lent-length 860 (a .rows) (s .pre .rows-few))
 

@@ -26,7 +26,9 @@ tested : (s : tie.After-outside Inv-loop μ-loop)
     let z = word (a .b .now) (a .i + 4 * at .loop .k) in
     s .outside .result ≡ negative z || beyond (a .limit) z)
 tested s =
-    s .outside .ensures ∙ ap (λ z. negative z || beyond (s .before .before .before .before .before .args .limit) z) (got32 (s .before .word-at .ensures) (s .before .word-at .ok))
+    let limit = s .before .before .before .before .before .args .limit in
+    s .outside .ensures
+    ∙ ap (λ z. negative z || beyond limit z) (got32 (s .before .word-at .ensures) (s .before .word-at .ok))
 
 loop-holds : tie.Need-loop-holds Inv-loop μ-loop
 loop-holds c = (omega arith, λ j l. absurd (omega arith))

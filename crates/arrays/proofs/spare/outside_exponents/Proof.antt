@@ -1,65 +1,84 @@
--- `spare::outside_exponents` meets its contract: no place passed is unused and holds something.
+-- `spare::outside_exponents` meets its contract: nothing stands after the used rows, nor in the rest of a row passed.
 use borrow.Author.Needs.{needs}
 use native.Mathlib.Omega.{arith}
-use mathlib.Core.Path.{_≡_, refl, sym, ap₂, _∙_}
-use mathlib.Core.Bool.{Bool, false, not, _||_}
-use Prim.Native.Nat.{ℕ, _-_, _≤_, _<_}
+use mathlib.Core.Path.{_≡_, sym, _∙_}
+use mathlib.Core.Bool.{Bool, false, not}
+use Prim.Native.Nat.{ℕ, _+_, _-_, _*_, _≤_, _<_}
 use borrow.Author.Count.{below-more}
 use lib.Dec.{eqb}
 use lib.ListN.{length, getD}
-use Rattle.arrays.specs.Spare.{inRows}
-use Rattle.whole.specs.Tests.{any-found, any-none}
+use Rattle.whole.specs.Tests.{some-below}
+use Rattle.arrays.specs.Spare.{spare-after, spare-row, spare-none}
 use Rattle.arrays.proofs.spare.outside_exponents.Statement.{statement}
 use Rattle.arrays.proofs.spare.outside_exponents.Tie as tie
 
 abbrev Inv-loop : tie.InvT-loop
-Inv-loop e t k x₀ x-end x = (x-end ≡ length e) × (x ≤ length e) × ((j : ℕ) → j < x → not (inRows 12 t k j || eqb (getD e j 0) 0) ≡ false)
+Inv-loop e t k used r₀ r = (r ≤ t) × ((j : ℕ) → j < r → some-below (12 - k) (λ i. not (eqb (getD e (j * 12 + k + i) 0) 0)) ≡ false)
 
 abbrev μ-loop : tie.MeasureT-loop
-μ-loop e t k x₀ x-end x = length e - x
+μ-loop e t k used r₀ r = t - r
 
--- the test's answer, where it is b
-answer : (s : tie.After-stray Inv-loop μ-loop) {b : Bool} → s .stray .result ≡ b
-    → (let at = s .before .before .before .before .before in let a = at .before .before .args in
-    not (inRows 12 (a .t) (a .k) (at .loop .x) || eqb (getD (a .e .now) (at .loop .x) 0) 0) ≡ b)
-answer s t =
-    ap₂ (λ u v. not (u || eqb v 0)) (sym (s .before .before .before .in-rows .ensures)) (sym (s .before .widen-u8 .ensures .0))
-    ∙ sym (s .stray .ensures) ∙ t
+-- which entries are 0
+abbrev zeroAt : tie.Start Inv-loop μ-loop → ℕ → Bool
+zeroAt s x = eqb (getD (s .args .e .now) (x) 0) 0
 
-loop-holds : tie.Need-loop-holds Inv-loop μ-loop
-loop-holds c = (refl, omega arith, λ j l. absurd (omega arith))
+-- where a stray number is found: nowhere after the used rows
+no-rest : (s : tie.Else1 Inv-loop μ-loop) → (let a = s .before .before .before in
+    some-below (length (a .args .e .now) - a .args .t * 12) (λ i. not (zeroAt a (a .args .t * 12 + i))) ≡ false)
+no-rest s = sym (s .before .any-exponent .ensures) ∙ s .if1 .left
 
-in-rows-requires : tie.Need-in-rows-requires Inv-loop μ-loop
-in-rows-requires c κs = search needs
+mul-used : tie.Need-mul-used Inv-loop μ-loop
+mul-used c = search needs
 
-shared-slice-read-widen-u8 : tie.Need-shared-slice-read-widen-u8 Inv-loop μ-loop
-shared-slice-read-widen-u8 c = search needs
+sub-any-exponent : tie.Need-sub-any-exponent Inv-loop μ-loop
+sub-any-exponent c = search needs
 
-widen-u8-requires : tie.Need-widen-u8-requires Inv-loop μ-loop
-widen-u8-requires c κs = search needs
-
-stray-requires : tie.Need-stray-requires Inv-loop μ-loop
-stray-requires c κs = search needs
+any-exponent-requires : tie.Need-any-exponent-requires Inv-loop μ-loop
+any-exponent-requires c κs = search needs
 
 returns : tie.Need-returns Inv-loop μ-loop
-returns c = sym (any-found _ _ _ _ (omega arith) (answer (c .before) (c .if1 .taken)))
+returns c =
+    let a = c .before .before .before in
+    sym (spare-after 12 _ _ _ (omega arith) (a .pre .0) (a .pre .1) (zeroAt a) (sym (c .before .any-exponent .ensures) ∙ c .if1 .taken))
 
-add-x : tie.Need-add-x Inv-loop μ-loop
-add-x c = search needs
+loop-holds : tie.Need-loop-holds Inv-loop μ-loop
+loop-holds c = (omega arith, λ j l. absurd (omega arith))
+
+mul-any-exponent : tie.Need-mul-any-exponent Inv-loop μ-loop
+mul-any-exponent c = search needs
+
+add-any-exponent : tie.Need-add-any-exponent Inv-loop μ-loop
+add-any-exponent c = search needs
+
+sub-any-exponent-2 : tie.Need-sub-any-exponent-2 Inv-loop μ-loop
+sub-any-exponent-2 c = search needs
+
+any-exponent-requires-2 : tie.Need-any-exponent-requires-2 Inv-loop μ-loop
+any-exponent-requires-2 c κs = search needs
+
+returns-2 : tie.Need-returns-2 Inv-loop μ-loop
+returns-2 c =
+    let l = c .before .before .before in
+    let a = l .before .before .before .before in
+    sym (spare-row 12 _ _ _ (omega arith) (a .pre .0) (a .pre .1) (zeroAt a) (no-rest (l .before)) (l .loop .r) (omega arith)
+    (sym (c .before .any-exponent2 .ensures) ∙ c .if2 .taken))
+
+add-r : tie.Need-add-r Inv-loop μ-loop
+add-r c = search needs
 
 loop-less : tie.Need-loop-less Inv-loop μ-loop
 loop-less c = search needs
 
 loop-again : tie.Need-loop-again Inv-loop μ-loop
-loop-again c = (
-  refl,
-  omega arith,
-  below-more _ _ (c .before .before .before .before .before .before .loop .inv .2)
-      (answer (c .before) (c .if1 .left)),
-)
+loop-again c =
+    (omega arith, below-more _ _ (c .before .before .before .loop .inv .1) (sym (c .before .any-exponent2 .ensures) ∙ c .if2 .left))
 
-returns-2 : tie.Need-returns-2 Inv-loop μ-loop
-returns-2 c = sym (any-none _ _ _ (λ j l. c .before .loop .inv .2 j (omega arith)))
+returns-3 : tie.Need-returns-3 Inv-loop μ-loop
+returns-3 c =
+    let l = c .before in
+    let a = l .before .before .before .before in
+    sym (spare-none 12 _ _ _ (omega arith) (a .pre .0) (a .pre .1) (zeroAt a) (no-rest (l .before))
+    (λ r h. l .loop .inv .1 r (omega arith)))
 
 pub outside-exponents-spec : {M : Type 1} → statement M
 outside-exponents-spec =
@@ -67,13 +86,17 @@ outside-exponents-spec =
     (tie.spec
     Inv-loop
     μ-loop
-    loop-holds
-    in-rows-requires
-    shared-slice-read-widen-u8
-    widen-u8-requires
-    stray-requires
+    mul-used
+    sub-any-exponent
+    any-exponent-requires
     returns
-    add-x
+    loop-holds
+    mul-any-exponent
+    add-any-exponent
+    sub-any-exponent-2
+    any-exponent-requires-2
+    returns-2
+    add-r
     loop-less
     loop-again
-    returns-2)
+    returns-3)

@@ -1,73 +1,85 @@
--- `spare::outside_numbers` meets its contract: no place passed is unused and holds something.
+-- `spare::outside_numbers` meets its contract: nothing stands after the used rows, nor in the rest of a row passed.
 use borrow.Author.Needs.{needs}
 use native.Mathlib.Omega.{arith}
-use mathlib.Core.Path.{_≡_, refl, sym, ap, ap₂, _∙_}
-use mathlib.Core.Bool.{Bool, false, not, _||_}
-use Prim.Native.Nat.{ℕ, _-_, _≤_, _<_}
+use mathlib.Core.Path.{_≡_, sym, _∙_}
+use mathlib.Core.Bool.{Bool, false, not}
+use Prim.Native.Nat.{ℕ, _+_, _-_, _*_, _≤_, _<_}
 use borrow.Author.Count.{below-more}
-use lib.Dec.{eqb}
 use lib.ListN.{length, getD}
-use lib.IntN.{pos, natAbs}
-use Rattle.whole.specs.Fits.{read32}
-use Rattle.arrays.specs.Spare.{inRows}
-use Rattle.whole.specs.Tests.{any-found, any-none}
+use lib.IntN.{pos}
+use Rattle.whole.specs.Tests.{some-below}
+use Rattle.model.specs.Valid.{isZero}
+use Rattle.arrays.specs.Spare.{spare-after, spare-row, spare-none}
 use Rattle.arrays.proofs.spare.outside_numbers.Statement.{statement}
 use Rattle.arrays.proofs.spare.outside_numbers.Tie as tie
 
 abbrev Inv-loop : tie.InvT-loop
-Inv-loop xs t k x₀ x-end x = (x-end ≡ length xs) × (x ≤ length xs) ×
-    ((j : ℕ) → j < x → not (inRows 6 t k j || eqb (natAbs (getD xs j (pos 0))) 0) ≡ false)
+Inv-loop xs t k used r₀ r = (r ≤ t) × ((j : ℕ) → j < r → some-below (6 - k) (λ i. not (isZero (getD xs (j * 6 + k + i) (pos 0)))) ≡ false)
 
 abbrev μ-loop : tie.MeasureT-loop
-μ-loop xs t k x₀ x-end x = length xs - x
+μ-loop xs t k used r₀ r = t - r
 
--- the test's answer, where it is b
-answer : (s : tie.After-stray Inv-loop μ-loop) {b : Bool} → s .stray .result ≡ b
-    → (let at = s .before .before .before .before .before in let a = at .before .args in
-    not (inRows 6 (a .t) (a .k) (at .loop .x) || eqb (natAbs (getD (a .xs .now) (at .loop .x) (pos 0))) 0) ≡ b)
-answer s t =
-    let at = s .before .before .before .before .before in
-    let z = getD (at .before .args .xs .now) (at .loop .x) (pos 0) in
-    let size = s .before .size-i32 .ensures .0 ∙ ap natAbs (read32 z (s .before .before .size-i32-arg .given)) in
-    ap₂ (λ u v. not (u || eqb v 0)) (sym (s .before .before .before .in-rows .ensures)) (sym size) ∙ sym (s .stray .ensures) ∙ t
+-- which entries are 0
+abbrev zeroAt : tie.Start Inv-loop μ-loop → ℕ → Bool
+zeroAt s x = isZero (getD (s .args .xs .now) (x) (pos 0))
 
-loop-holds : tie.Need-loop-holds Inv-loop μ-loop
-loop-holds c = (refl, omega arith, λ j l. absurd (omega arith))
+-- where a stray number is found: nowhere after the used rows
+no-rest : (s : tie.Else1 Inv-loop μ-loop) → (let a = s .before .before in
+    some-below (length (a .args .xs .now) - a .args .t * 6) (λ i. not (zeroAt a (a .args .t * 6 + i))) ≡ false)
+no-rest s = sym (s .before .any-number .ensures) ∙ s .if1 .left
 
-in-rows-requires : tie.Need-in-rows-requires Inv-loop μ-loop
-in-rows-requires c κs = search needs
+mul-used : tie.Need-mul-used Inv-loop μ-loop
+mul-used c = search needs
 
-mul-size-i32 : tie.Need-mul-size-i32 Inv-loop μ-loop
-mul-size-i32 c = search needs
+sub-any-number : tie.Need-sub-any-number Inv-loop μ-loop
+sub-any-number c = search needs
 
-shared-slice-copy-out-size-i32 : tie.Need-shared-slice-copy-out-size-i32 Inv-loop μ-loop
-shared-slice-copy-out-size-i32 c = search needs
-
-size-i32-requires : tie.Need-size-i32-requires Inv-loop μ-loop
-size-i32-requires c κs = search needs
-
-stray-requires : tie.Need-stray-requires Inv-loop μ-loop
-stray-requires c κs = search needs
+any-number-requires : tie.Need-any-number-requires Inv-loop μ-loop
+any-number-requires c κs = search needs
 
 returns : tie.Need-returns Inv-loop μ-loop
-returns c = sym (any-found _ _ _ _ (omega arith) (answer (c .before) (c .if1 .taken)))
+returns c =
+    let a = c .before .before in
+    sym (spare-after 6 _ _ _ (omega arith) (a .pre .0) (a .pre .1) (zeroAt a) (sym (c .before .any-number .ensures) ∙ c .if1 .taken))
 
-add-x : tie.Need-add-x Inv-loop μ-loop
-add-x c = search needs
+loop-holds : tie.Need-loop-holds Inv-loop μ-loop
+loop-holds c = (omega arith, λ j l. absurd (omega arith))
+
+mul-any-number : tie.Need-mul-any-number Inv-loop μ-loop
+mul-any-number c = search needs
+
+add-any-number : tie.Need-add-any-number Inv-loop μ-loop
+add-any-number c = search needs
+
+sub-any-number-2 : tie.Need-sub-any-number-2 Inv-loop μ-loop
+sub-any-number-2 c = search needs
+
+any-number-requires-2 : tie.Need-any-number-requires-2 Inv-loop μ-loop
+any-number-requires-2 c κs = search needs
+
+returns-2 : tie.Need-returns-2 Inv-loop μ-loop
+returns-2 c =
+    let l = c .before .before .before in
+    let a = l .before .before .before in
+    sym (spare-row 6 _ _ _ (omega arith) (a .pre .0) (a .pre .1) (zeroAt a) (no-rest (l .before)) (l .loop .r) (omega arith)
+    (sym (c .before .any-number2 .ensures) ∙ c .if2 .taken))
+
+add-r : tie.Need-add-r Inv-loop μ-loop
+add-r c = search needs
 
 loop-less : tie.Need-loop-less Inv-loop μ-loop
 loop-less c = search needs
 
 loop-again : tie.Need-loop-again Inv-loop μ-loop
-loop-again c = (
-  refl,
-  omega arith,
-  below-more _ _ (c .before .before .before .before .before .before .loop .inv .2)
-      (answer (c .before) (c .if1 .left)),
-)
+loop-again c =
+    (omega arith, below-more _ _ (c .before .before .before .loop .inv .1) (sym (c .before .any-number2 .ensures) ∙ c .if2 .left))
 
-returns-2 : tie.Need-returns-2 Inv-loop μ-loop
-returns-2 c = sym (any-none _ _ _ (λ j l. c .before .loop .inv .2 j (omega arith)))
+returns-3 : tie.Need-returns-3 Inv-loop μ-loop
+returns-3 c =
+    let l = c .before in
+    let a = l .before .before .before in
+    sym (spare-none 6 _ _ _ (omega arith) (a .pre .0) (a .pre .1) (zeroAt a) (no-rest (l .before))
+    (λ r h. l .loop .inv .1 r (omega arith)))
 
 pub outside-numbers-spec : {M : Type 1} → statement M
 outside-numbers-spec =
@@ -75,14 +87,17 @@ outside-numbers-spec =
     (tie.spec
     Inv-loop
     μ-loop
-    loop-holds
-    in-rows-requires
-    mul-size-i32
-    shared-slice-copy-out-size-i32
-    size-i32-requires
-    stray-requires
+    mul-used
+    sub-any-number
+    any-number-requires
     returns
-    add-x
+    loop-holds
+    mul-any-number
+    add-any-number
+    sub-any-number-2
+    any-number-requires-2
+    returns-2
+    add-r
     loop-less
     loop-again
-    returns-2)
+    returns-3)

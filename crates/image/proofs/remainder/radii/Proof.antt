@@ -9,7 +9,7 @@ use Rattle.whole.specs.Tab.{all}
 use Rattle.rows.specs.Rows.{Small}
 use Rattle.zonotope.specs.declared.PolyZonotope.{PolyZonotope}
 use Rattle.forms.specs.Numbers.{tableLimit, lines-small}
-use Rattle.raw.specs.Accepted.{Accepted, Sized}
+use Rattle.raw.specs.Accepted.{InSpan, RowsSized}
 use Rattle.raw.specs.Unused.{counts-in}
 use Rattle.raw.specs.Limits.{centre-small}
 use Rattle.image.specs.Radii.{terms-below, independent-below, radii-below, terms-room, generators-room, no-rows-room, new-radii}
@@ -26,10 +26,10 @@ module _ (z : tie.Start) where
   abbrev Q : List ℤ
   Q = z .args .q .now
 
-  ok : Accepted S
+  ok : InSpan S
   ok = z .pre .2
 
-  sized : Sized S
+  sized : RowsSized S
   sized = record { centre = search needs; exponents = search needs; coefficients = search needs; vectors = search needs }
 
   centre-ok : Small 1048576 (S .centre)

@@ -3,7 +3,7 @@ use borrow.Author.Needs.{needs}
 use Rattle.rows.specs.Rows.{Small}
 use Rattle.zonotope.specs.declared.PolyZonotope.{PolyZonotope}
 use Rattle.forms.specs.Numbers.{tableLimit, lineTable, lines-small}
-use Rattle.raw.specs.Accepted.{Accepted}
+use Rattle.raw.specs.Accepted.{InSpan}
 use Rattle.raw.specs.Limits.{centre-small}
 use Rattle.raw.specs.Parts.{raw-centre}
 use Rattle.raw.proofs.parts.centre.Statement.{statement}
@@ -13,7 +13,7 @@ module _ (z : tie.Start) where
   abbrev S : PolyZonotope
   S = z .args .s
 
-  ok : Accepted S
+  ok : InSpan S
   ok = z .pre .3
 
   centre-ok : Small 1048576 (S .centre)

@@ -6,7 +6,7 @@ use Rattle.whole.specs.Tab.{all}
 use Rattle.rows.specs.Rows.{Small}
 use Rattle.zonotope.specs.declared.PolyZonotope.{PolyZonotope}
 use Rattle.forms.specs.Numbers.{tableLimit, lineTable, lines-small}
-use Rattle.raw.specs.Accepted.{Accepted, Sized}
+use Rattle.raw.specs.Accepted.{InSpan, RowsSized}
 use Rattle.raw.specs.Unused.{counts-in}
 use Rattle.raw.specs.Limits.{centre-small, vectors-small}
 use Rattle.raw.specs.Parts.{raw-generators}
@@ -17,10 +17,10 @@ module _ (z : tie.Start) where
   abbrev S : PolyZonotope
   S = z .args .s
 
-  ok : Accepted S
+  ok : InSpan S
   ok = z .pre .2
 
-  sized : Sized S
+  sized : RowsSized S
   sized = record { centre = search needs; exponents = search needs; coefficients = search needs; vectors = search needs }
 
   lines-ok : Small tableLimit (lineTable (z .args .a .now) (z .args .q .now) (S .centre))

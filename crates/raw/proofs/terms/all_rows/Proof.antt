@@ -11,7 +11,7 @@ use Rattle.model.specs.Step.{dot}
 use Rattle.zonotope.specs.declared.PolyZonotope.{PolyZonotope}
 use Rattle.forms.specs.Tables.{rowOf}
 use Rattle.forms.specs.Numbers.{tableLimit, lines-small, columns-small}
-use Rattle.raw.specs.Accepted.{Accepted, Sized}
+use Rattle.raw.specs.Accepted.{InSpan, RowsSized}
 use Rattle.raw.specs.Unused.{counts-in}
 use Rattle.raw.specs.Limits.{centre-small, coefficients-small, exponents-low}
 use Rattle.raw.specs.Terms.{own-bounded, raw-terms}
@@ -28,10 +28,10 @@ module _ (z : tie.Start) where
   abbrev Q : List ℤ
   Q = z .args .q .now
 
-  ok : Accepted S
+  ok : InSpan S
   ok = z .pre .4
 
-  sized : Sized S
+  sized : RowsSized S
   sized = record { centre = search needs; exponents = search needs; coefficients = search needs; vectors = search needs }
 
   centre-ok : Small 1048576 (S .centre)

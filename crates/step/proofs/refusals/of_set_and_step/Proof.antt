@@ -1,11 +1,10 @@
 -- `refusals::of_set_and_step` meets its contract.
 use mathlib.Core.Path.{sym, _∙_}
 use Rattle.model.specs.Run.{firstOf}
-use Rattle.model.specs.Library.{examine}
+use Rattle.model.specs.Library.{ofStep, examine}
 use Rattle.zonotope.specs.Record.{view, given}
 use Rattle.image.specs.StepAccepted.{stepOf}
 use Rattle.answers.specs.Answer.{accepting, refused-first, asked-next}
-use Rattle.stepping.specs.Arguments.{ofArguments}
 use borrow.Author.Needs.{needs}
 use Rattle.step.proofs.refusals.of_set_and_step.Statement.{statement}
 use Rattle.step.proofs.refusals.of_set_and_step.Tie as tie
@@ -22,7 +21,7 @@ returns c =
     let x = c .before .before .examine .ensures in
     let a = c .before .before .before .args in
     let p = stepOf (a .m) (a .n) (a .c .now) (a .a .now) (a .q .now) in (
-      refused-first (examine (given (a .s))) (firstOf (ofArguments p (a .s .dimension))) (x .0)
+      refused-first (examine (given (a .s))) (firstOf (ofStep p (a .s .dimension))) (x .0)
           (sym (c .before .is-refused .ensures) ∙ c .if1 .taken),
       x .1,
     )
@@ -38,7 +37,7 @@ returns-2 c =
     let a = i .before .before .before .args in
     let p = stepOf (a .m) (a .n) (a .c .now) (a .a .now) (a .q .now) in
     let yes = sym (i .before .is-refused .ensures) ∙ i .if1 .left in (
-      asked-next (examine (given (a .s))) (firstOf (ofArguments p (a .s .dimension))) (x .0) yes (c .of-step .ensures),
+      asked-next (examine (given (a .s))) (firstOf (ofStep p (a .s .dimension))) (x .0) yes (c .of-step .ensures),
       λ e. x .1 (accepting _ yes),
     )
 

@@ -4,8 +4,9 @@ use mathlib.Core.Bool.{Bool, _||_}
 use borrow.Author.Tests.{eq-eqb, ne-eqb}
 use Rattle.model.specs.Run.{firstOf}
 use Rattle.model.specs.Step.{Step}
+use Rattle.model.specs.Library.{badStepCounts, badStepLengths, badStepRange}
 use Rattle.image.specs.StepAccepted.{stepOf}
-use Rattle.stepping.specs.Arguments.{wrongCounts, wrongLengths, outOfRange, counts-in}
+use Rattle.stepping.specs.Arguments.{counts-in}
 use borrow.Author.Needs.{needs}
 use Rattle.stepping.proofs.arguments.of_step.Statement.{statement}
 use Rattle.stepping.proofs.arguments.of_step.Tie as tie
@@ -15,15 +16,16 @@ abbrev asked : (s : tie.Start) → Step
 asked s = let a = s .args in stepOf (a .m) (a .n) (a .c .now) (a .a .now) (a .q .now)
 
 counts : (s : tie.After-bad-dimension2) {b : Bool} → (s .before .bad-dimension .result || s .bad-dimension2 .result) ≡ b
-    → wrongCounts (asked (s .before .before)) ≡ b
+    → badStepCounts (asked (s .before .before)) ≡ b
 counts s t = sym (ap₂ _||_ (s .before .bad-dimension .ensures) (s .bad-dimension2 .ensures)) ∙ t
 
-lengths : (s : tie.After-lengths-differ) {b : Bool} → s .lengths-differ .result ≡ b → wrongLengths (asked (s .before .before .before .before)) ≡ b
+lengths : (s : tie.After-lengths-differ) {b : Bool} → s .lengths-differ .result ≡ b
+    → badStepLengths (asked (s .before .before .before .before)) ≡ b
 lengths s t = sym (s .lengths-differ .ensures) ∙ t
 
 entries : (s : tie.After-entries-beyond3) {b : Bool}
     → (s .before .before .entries-beyond .result || s .before .entries-beyond2 .result || s .entries-beyond3 .result) ≡ b
-    → outOfRange (asked (s .before .before .before .before .before .before .before .before .before)) ≡ b
+    → badStepRange (asked (s .before .before .before .before .before .before .before .before .before)) ≡ b
 entries s t =
     sym (ap₂ _||_ (ap₂ _||_ (s .before .before .entries-beyond .ensures) (s .before .entries-beyond2 .ensures))
     (s .entries-beyond3 .ensures))

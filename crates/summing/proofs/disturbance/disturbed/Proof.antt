@@ -3,32 +3,41 @@ use mathlib.Core.Path.{_≡_, sym, ap, _∙_}
 use Rattle.model.specs.Valid.{tooWide}
 use Rattle.model.specs.Operations.{disturb}
 use Rattle.zonotope.specs.Record.{view}
+use Rattle.zonotope.specs.Counts.{InLimits}
+use Rattle.zonotope.specs.View.{view-wide}
 use Rattle.answers.specs.Answer.{answer-wide, answer-narrow}
 use Rattle.summing.specs.Disturb.{disturbed-limits, disturbed-width}
 use borrow.Author.Needs.{needs}
 use Rattle.summing.proofs.disturbance.disturbed.Statement.{statement}
 use Rattle.summing.proofs.disturbance.disturbed.Tie as tie
 
+abbrev changed : tie.After-too-wide → tie.After-with-radii
+changed w = w .before .before .before .before .before .before
+
 -- the answer to whether the result is too wide
-width : (w : tie.After-too-wide) → w .too-wide .result ≡ tooWide
-    (disturb (w .before .before .before .args .radii .now) (view (w .before .before .before .args .s)))
+width : (w : tie.After-too-wide) → (let a = changed w .before .before .args in
+    w .too-wide .result ≡ tooWide (disturb (a .radii .now) (view (a .s))))
 width w =
     w .too-wide .ensures
-    ∙ ap (λ t. tooWide (view t)) (w .before .with-radii .ensures)
-    ∙ disturbed-width _ _ (w .before .before .before .pre)
+    ∙ sym (view-wide _)
+    ∙ ap (λ t. tooWide (view t)) (changed w .with-radii .ensures)
+    ∙ disturbed-width _ _ (changed w .before .before .pre)
 
 with-radii-requires : tie.Need-with-radii-requires
 with-radii-requires c κs = search needs
 
 too-wide-requires : tie.Need-too-wide-requires
-too-wide-requires c κs = rw (c .with-radii .ensures) (disturbed-limits _ _ (c .before .before .pre))
+too-wide-requires c κs =
+    let w = c .before .before .before .before .before in
+    let l : InLimits (w .with-radii .result) = rw (w .with-radii .ensures) (disturbed-limits _ _ (w .before .before .pre)) in
+    (l .dimension, l .terms, l .generators)
 
 returns : tie.Need-returns
 returns c = answer-wide _ _ (sym (width (c .before)) ∙ c .if1 .taken)
 
 returns-2 : tie.Need-returns-2
 returns-2 c =
-    answer-narrow _ _ _ (c .before .before .with-radii .ensures) (sym (width (c .before)) ∙ c .if1 .left)
+    answer-narrow _ _ _ (changed (c .before) .with-radii .ensures) (sym (width (c .before)) ∙ c .if1 .left)
 
 pub disturbed-spec : {M : Type 1} → statement M
 disturbed-spec = tie.close (tie.spec with-radii-requires too-wide-requires returns returns-2)

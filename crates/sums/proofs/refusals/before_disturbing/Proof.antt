@@ -2,8 +2,7 @@
 use mathlib.Core.Path.{sym, _∙_}
 use Rattle.zonotope.specs.Record.{view, given}
 use Rattle.model.specs.Run.{firstOf}
-use Rattle.model.specs.Library.{examine}
-use Rattle.sums.specs.Causes.{ofRadii}
+use Rattle.model.specs.Library.{ofRadii, examine}
 use Rattle.answers.specs.Answer.{accepting, refused-first, asked-next}
 use borrow.Author.Needs.{needs}
 use Rattle.sums.proofs.refusals.before_disturbing.Statement.{statement}

@@ -1,9 +1,8 @@
 -- `refusals::before_reducing` meets its contract.
 use mathlib.Core.Path.{sym, _∙_}
 use Rattle.model.specs.Run.{firstOf}
-use Rattle.model.specs.Library.{examine}
+use Rattle.model.specs.Library.{ofLimits, examine}
 use Rattle.zonotope.specs.Record.{given}
-use Rattle.sums.specs.Causes.{ofLimits}
 use Rattle.answers.specs.Answer.{accepting, refused-first, asked-next}
 use borrow.Author.Needs.{needs}
 use Rattle.sums.proofs.refusals.before_reducing.Statement.{statement}

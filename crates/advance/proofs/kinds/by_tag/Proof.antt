@@ -1,0 +1,39 @@
+-- `kinds::by_tag` meets its contract.
+use native.Mathlib.Omega.{arith}
+use lib.IntN.{pos}
+use Rattle.model.specs.Run.{kindOf}
+use Rattle.stepping.specs.Work.{workNumbers, workExponents}
+use Rattle.advance.specs.CallLaws.{not-used}
+use Rattle.advance.specs.FieldLaws.{tag-advanced, later}
+use borrow.Author.Needs.{needs}
+use Rattle.advance.proofs.kinds.by_tag.Statement.{statement}
+use Rattle.advance.proofs.kinds.by_tag.Tie as tie
+
+stepped-requires : tie.Need-stepped-requires
+stepped-requires c κs =
+    let i = c .before .before in let s = i .before .before .before in
+    let l = later (s .pre .0) (λ z. omega (arith, z, i .if1 .taken)) in
+    (l .0, l .1, l .2, s .pre .1, s .pre .2)
+
+same-length : tie.Need-same-length
+same-length c = search needs
+
+same-length-2 : tie.Need-same-length-2
+same-length-2 c = search needs
+
+returns : tie.Need-returns
+unfolding kindOf
+returns c =
+    let t = c .before .before .before in let i = t .before .before .before in let a = i .before .before .before .args in
+    (tag-advanced 2 (a .place) (a .st) (a .body .now) (a .bytes) (i .if1 .taken) (t .stepped .ensures .0), t .stepped .ensures .1)
+
+by-other-tag-requires : tie.Need-by-other-tag-requires
+by-other-tag-requires c κs = (c .before .before .before .pre .0, c .if1 .left)
+
+returns-2 : tie.Need-returns-2
+returns-2 c = (c .by-other-tag .ensures, (not-used _ (pos 0) workNumbers _, not-used _ 0 workExponents _))
+
+pub by-tag-spec : {M : Type 1} → statement M
+by-tag-spec =
+    tie.close
+    (tie.spec stepped-requires same-length same-length-2 returns by-other-tag-requires returns-2)

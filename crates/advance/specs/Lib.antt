@@ -1,0 +1,19 @@
+-- One field given to a state of a run.
+--     Header          12, 2, 1: what is known before the body is read
+--     Running         a state that a run can have
+--     Advanced        what is answered and left, and what becomes of the work slices
+--     RecordRuns      the record of a sound state is one that a run can have
+--     Kinds           what is answered and left, by what a field of each kind answers
+--     HeaderLaws      a header's causes by the input's own bytes
+--     ConclusionLaws  the six places of an answer's ends, and what is answered by an outcome
+--     CallLaws        what a field of each kind answers, from what the call that reads its body ensures
+--     FieldLaws       a field by its tag, and the first field of what is left of the input
+pub mod Header
+pub mod Running
+pub mod Advanced
+pub mod RecordRuns
+pub mod Kinds
+pub mod HeaderLaws
+pub mod ConclusionLaws
+pub mod CallLaws
+pub mod FieldLaws

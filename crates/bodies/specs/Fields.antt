@@ -1,0 +1,79 @@
+-- The bodies of the other kinds: their counts, and bodies as long as their counts say.
+use mathlib.Core.Path.{_≡_, refl}
+use mathlib.Core.List.{List}
+use mathlib.Core.Bool.{Bool, false, _||_}
+use Prim.Native.Nat.{ℕ, _+_, _*_, _/_, _%_, _<_, _≤_}
+use native.Mathlib.Nat.{mul-le-mul}
+use native.Mathlib.Omega.{arith}
+use lib.Dec.{ltb, eqb}
+use lib.ListN.{length}
+use lib.IntN.{ℤ}
+use Rattle.whole.specs.Tab.{tab}
+use Rattle.model.specs.Limits.{maxTerms, maxGenerators, maxHalfspaces}
+use Rattle.model.specs.Bytes.{word, words, long}
+use Rattle.model.specs.Body.{dimension, stepRows, stepColumns, stepLength, givenStep, termLimit, generatorLimit}
+use Rattle.model.specs.Body.{halfspaceCount, halfspaceAt}
+use Rattle.model.specs.Field.{badDimension}
+
+module _ (b : List ℕ) where
+  -- ---- a step
+  -- 4: whether a count is out of limits
+  abbrev pub stepCountsOut : Bool
+  stepCountsOut = badDimension (stepRows b) || badDimension (stepColumns b)
+
+  -- a body as long as its counts say, whose c, A and Q have these numbers of entries
+  pub record StepBody (c a q : ℕ) : Type 0 where
+    pub long : length b ≡ stepLength b
+    pub constant : c ≡ stepRows b
+    pub linear : a ≡ stepRows b * stepColumns b
+    pub quadratic : q ≡ stepRows b * stepColumns b * stepColumns b
+
+  -- ---- a disturbance
+  -- a body of n radii
+  abbrev pub radiiLength : ℕ
+  radiiLength = 1 + 4 * dimension b
+
+  -- ---- a reduction
+  -- 4: whether a limit is larger than a set's
+  abbrev pub limitsOut : Bool
+  limitsOut = ltb maxTerms (termLimit b) || ltb maxGenerators (generatorLimit b)
+
+  -- ---- a check
+  -- 4: whether a count is out of limits
+  abbrev pub regionCountsOut : Bool
+  regionCountsOut = badDimension (dimension b) || eqb (halfspaceCount b) 0 || ltb maxHalfspaces (halfspaceCount b)
+
+  -- where the last halfspace ends
+  abbrev pub regionLength : ℕ
+  regionLength = halfspaceAt b (halfspaceCount b)
+
+  -- a body with counts in limits and as long as they say, whose normals and bounds have these numbers of entries
+  pub record RegionBody (normals bounds : ℕ) : Type 0 where
+    pub counts : regionCountsOut ≡ false
+    pub long : length b ≡ regionLength
+    pub normals-long : normals ≡ halfspaceCount b * dimension b
+    pub bounds-long : bounds ≡ halfspaceCount b
+
+  -- the normals one after the other, and the bounds
+  unfoldable pub givenNormals : List ℤ
+  givenNormals = tab (halfspaceCount b * dimension b) (λ x. word b (halfspaceAt b (x / dimension b) + 4 * (x % dimension b)))
+
+  unfoldable pub givenBounds : List ℤ
+  givenBounds = tab (halfspaceCount b) (λ k. long b (halfspaceAt b k + 4 * dimension b))
+
+-- ---- laws
+-- numbers of entries of a step whose counts are bytes
+pub entries-small : (m n : ℕ) → m < 256 → n < 256 → (m * n ≤ 65025) × (m * n * n ≤ 16581375)
+entries-small m n h l =
+    let two = mul-le-mul {n₁ = m} {m₁ = n} {n₂ = 255} {m₂ = 255} (omega arith) (omega arith) in
+    (two, mul-le-mul {n₁ = m * n} {m₁ = n} {n₂ = 65025} {m₂ = 255} two (omega arith))
+
+pub region-small : (count n : ℕ) → count < 256 → n < 256 → count * (4 * n + 8) ≤ 262140
+region-small count n h l = mul-le-mul {n₁ = count} {m₁ = 4 * n + 8} {n₂ = 255} {m₂ = 1028} (omega arith) (omega arith)
+
+-- the words of a step, by the numbers of its entries
+pub step-parts : (b : List ℕ) {c a q : ℕ} → StepBody b c a q → {x y z : List ℤ}
+    → x ≡ words b 2 c → y ≡ words b (2 + 4 * c) a → z ≡ words b (2 + 4 * c + 4 * a) q
+    → (x ≡ givenStep b .constant) × (y ≡ givenStep b .linear) × (z ≡ givenStep b .quadratic)
+unfolding givenStep
+step-parts b h e₁ e₂ e₃ = rw (e₁, e₂, e₃, h .constant, h .linear, h .quadratic) (refl, refl, refl)

@@ -1,0 +1,77 @@
+// What the program prints.
+use states::Answer;
+use states::Outcome;
+use states::Refusal;
+
+// A number after a blank.
+fn number(v: i64) {
+    if v < 0 {
+        io::write_all(1, b" -");
+    } else {
+        io::write_all(1, b" ");
+    }
+    io::print_decimal(1, whole::size(v));
+}
+
+// A count after a blank.
+fn count(n: usize) {
+    io::write_all(1, b" ");
+    io::print_decimal(1, n as u64);
+}
+
+// The field's number and tag, and what is answered.
+pub fn answer(a: Answer, tag: u8) {
+    io::print_decimal(1, a.field as u64);
+    count(tag as usize);
+    outcome(a);
+}
+
+// How many fields were accepted.
+pub fn accepted(n: usize) {
+    io::write_all(1, b"accepted");
+    count(n);
+}
+
+// The ends of each coordinate, the verdict, or the refusal.
+pub fn outcome(a: Answer) {
+    let o = a.outcome;
+    match o {
+        Outcome::Inside => {
+            let low = a.low;
+            let high = a.high;
+            ends(a.sides, &low, &high);
+        }
+        Outcome::Safe => {
+            io::write_all(1, b" safe");
+        }
+        Outcome::Unknown => {
+            io::write_all(1, b" unknown");
+        }
+        Outcome::Refused(r) => {
+            refusal(r);
+        }
+        Outcome::Skipped => {
+            io::write_all(1, b" skipped");
+        }
+        Outcome::Unfit(n) => {
+            io::write_all(1, b" unfit");
+            count(n as usize);
+        }
+    }
+    io::write_all(1, b"\n");
+}
+
+fn refusal(r: Refusal) {
+    io::write_all(1, b" refused");
+    count(r.number as usize);
+    count(r.place);
+}
+
+fn ends(n: usize, low: &[i64; 6], high: &[i64; 6]) {
+    for i in 0..6 {
+        if i < n {
+            number(low[i]);
+            number(high[i]);
+        }
+    }
+}

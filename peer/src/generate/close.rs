@@ -1,0 +1,160 @@
+//! Runs where one unit decides: equal sizes, exact halves, odd folds.
+
+use std::collections::BTreeSet;
+
+use super::parts::region;
+use super::valid::Builder;
+use crate::field::Field;
+use crate::finish::Limits;
+use crate::random::Random;
+use crate::set::{Set, Term, MAX_GENERATORS, MAX_TERMS, SPAN_LIMIT};
+use crate::step::{Step, UNIT};
+
+/// Terms and generators of equal sizes or nearly so, as the weights have it, in reductions and full sums.
+pub fn ties(random: &mut Random) -> Vec<u8> {
+    let n = 1 + random.below(6);
+    let mut builder = start(Field::Start(tied_sizes(random, n, 4)));
+    for _ in 0..4 + random.below(8) {
+        let set = builder.set();
+        let field = match random.below(6) {
+            0 => Field::Reduce(Limits { terms: random.below(MAX_TERMS), generators: random.below(MAX_GENERATORS) }),
+            1 => Field::Reduce(Limits { terms: random.below(12), generators: random.below(8) }),
+            2 => Field::Tied(tied_sizes(random, n, 4)),
+            3 => Field::Independent(tied_sizes(random, n, 2)),
+            4 => Field::Step(exchange(random, n)),
+            _ => Field::Check(region(random, &set)),
+        };
+        builder.add(&field);
+    }
+    builder.bytes
+}
+
+/// Steps among powers of two, so that many numbers are exact halves or one beside.
+pub fn halves(random: &mut Random) -> Vec<u8> {
+    let n = 1 + random.below(3);
+    let mut builder = start(Field::Start(body(random, n, 2, 4, 2, power_of_two)));
+    for _ in 0..4 + random.below(8) {
+        let set = builder.set();
+        let field = match random.below(4) {
+            0 => Field::Check(region(random, &set)),
+            1 if set.identifiers.len() < 9 => Field::Independent(body(random, n, 2, 2, 1, power_of_two)),
+            _ => Field::Step(Step {
+                constant: numbers(random, n, |r| r.between(-2, 2)),
+                matrix: (0..n).map(|_| numbers(random, n, sparse)).collect(),
+                forms: (0..n).map(|_| (0..n).map(|_| numbers(random, n, sparse)).collect()).collect(),
+            }),
+        };
+        builder.add(&field);
+    }
+    builder.bytes
+}
+
+/// Even powers with odd, mostly negative coefficients that are folded in a set as wide as can be, so that some
+/// results are too wide by one.
+pub fn odd_folds(random: &mut Random) -> Vec<u8> {
+    let n = 1 + random.below(3);
+    let odd = |random: &mut Random| if random.once_in(4) { 2 * random.between(0, 3) + 1 } else { -3 };
+    let mut set = body(random, n, 2, 6, 1, odd);
+    for term in &mut set.terms {
+        term.exponents.iter_mut().for_each(|e| *e = if random.once_in(12) { *e } else { 2 * *e });
+    }
+    set.terms.sort_by(|s, t| s.exponents.cmp(&t.exponents));
+    let (mut wide, mut step) = (set.clone(), exchange(random, n));
+    for i in 0..n {
+        let room = SPAN_LIMIT - wide.span(i) - random.between(0, 3);
+        match random.below(3) {
+            0 => wide.radii[i] += room,
+            _ => wide.centre[i] += if wide.centre[i] < 0 { -room } else { room },
+        }
+    }
+    step.forms[0][0][0] = UNIT;
+    let fold = Field::Reduce(Limits { terms: random.below(4), generators: random.below(2) });
+    let high = Set { terms: set.terms.iter().map(|t| raised(t, 32)).collect(), ..set.clone() };
+    let fields = match random.below(4) {
+        0 => vec![Field::Start(set.clone()), fold, Field::Check(region(random, &set))],
+        1 => vec![Field::Start(high), Field::Step(step), fold],
+        _ => vec![Field::Start(wide), fold, Field::Step(exchange(random, n))],
+    };
+    fields.iter().flat_map(Field::encode).collect()
+}
+
+fn raised(term: &Term, by: u32) -> Term {
+    Term { exponents: term.exponents.iter().map(|e| e + by).collect(), ..term.clone() }
+}
+
+fn start(field: Field) -> Builder {
+    let mut builder = Builder::empty();
+    builder.add(&field);
+    builder
+}
+
+/// One at a place of weight 4 counts as much as four at a place of weight 1.
+fn tied_sizes(random: &mut Random, n: usize, factors: usize) -> Set {
+    let mut set = body(random, n, factors, MAX_TERMS, MAX_GENERATORS, |r| *r.pick(&[-1, 0, 1]));
+    let rows = set.terms.iter_mut().map(|t| &mut t.coefficients).chain(&mut set.generators);
+    for row in rows {
+        for (i, v) in row.iter_mut().enumerate() {
+            *v *= if i % 2 == 0 || random.once_in(2) { 1 } else { 4 };
+        }
+    }
+    set
+}
+
+/// Each coordinate becomes one of them, or its negative: exact, but places change their weight.
+fn exchange(random: &mut Random, n: usize) -> Step {
+    let mut step = super::limits::zero_step(n, n);
+    for row in &mut step.matrix {
+        row[random.below(n)] = *random.pick(&[UNIT, -UNIT]);
+    }
+    step
+}
+
+/// One of which two and an entry, or one and two entries, often make 8,388,608.
+fn power_of_two(random: &mut Random) -> i128 {
+    *random.pick(&[0, 1, 1, 64, 2048, 4096]) * random.between(-1, 1)
+}
+
+fn sparse(random: &mut Random) -> i128 {
+    if random.once_in(3) {
+        *random.pick(&[1, 2048, 2048, 4096]) * random.between(-1, 1)
+    } else {
+        0
+    }
+}
+
+/// A valid body with up to so many factors, terms and generators, of numbers made by `number`.
+fn body(
+    random: &mut Random,
+    n: usize,
+    factors: usize,
+    terms: usize,
+    generators: usize,
+    number: impl Fn(&mut Random) -> i128 + Copy,
+) -> Set {
+    let factors = 1 + random.below(factors);
+    let mut rows: BTreeSet<Vec<u32>> =
+        (0..factors).map(|k| (0..factors).map(|j| u32::from(j == k)).collect()).collect();
+    for _ in 0..random.below(terms + 1) {
+        let row: Vec<u32> = (0..factors).map(|_| random.below(6) as u32).collect();
+        if rows.len() < terms && row.iter().any(|e| *e > 0) {
+            rows.insert(row);
+        }
+    }
+    let nonzero = |random: &mut Random| loop {
+        let row = numbers(random, n, number);
+        if row.iter().any(|v| *v != 0) {
+            return row;
+        }
+    };
+    Set {
+        identifiers: (1..).take(factors).collect(),
+        centre: numbers(random, n, number),
+        terms: rows.into_iter().map(|exponents| Term { exponents, coefficients: nonzero(random) }).collect(),
+        generators: (0..random.below(generators + 1)).map(|_| nonzero(random)).collect(),
+        radii: (0..n).map(|_| random.between(0, 2)).collect(),
+    }
+}
+
+fn numbers(random: &mut Random, count: usize, number: impl Fn(&mut Random) -> i128) -> Vec<i128> {
+    (0..count).map(|_| number(random)).collect()
+}

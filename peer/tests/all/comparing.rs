@@ -1,0 +1,86 @@
+//! The comparison of a program with the second implementation: that it passes what agrees and notices what doesn't.
+
+use std::path::Path;
+use std::process::Command;
+
+use peer::generate::{kinds, Kind};
+
+const PEER: &str = env!("CARGO_BIN_EXE_peer");
+
+/// Exit status, and what the comparison with a program in the shell's words says; `"$0"` is the second implementation.
+fn compare(script: &str, options: &[&str]) -> (i32, String) {
+    let output = Command::new(PEER)
+        .args(["compare", "sh", "-c", script, PEER])
+        .args(options)
+        .output()
+        .expect("the comparison runs");
+    let text = [output.stdout, output.stderr].concat();
+    (output.status.code().expect("a status"), String::from_utf8_lossy(&text).into_owned())
+}
+
+/// The difference that a comparison has to notice: its message, and the kind and seed of the file that it left.
+fn difference(script: &str, first_seed: u64) -> (String, &'static Kind, u64) {
+    let (status, text) = compare(script, &["--files", "40", "--seed", &first_seed.to_string()]);
+    assert_eq!(status, 1, "{text}");
+    let words: Vec<&str> = text.split([' ', ',', ':', '\n']).filter(|word| !word.is_empty()).collect();
+    let after = |label: &str| words[1 + words.iter().position(|word| *word == label).expect(label)];
+    let kind = kinds().find(|kind| kind.name == after("kind")).expect("a kind");
+    let seed: u64 = after("seed").parse().expect("a seed");
+    let path = Path::new(words[words.len() - 1]);
+    assert_eq!(std::fs::read(path).expect("the file"), kind.file(seed));
+    std::fs::remove_file(path).expect("the file goes");
+    (text, kind, seed)
+}
+
+#[test]
+fn the_second_implementation_agrees_with_itself() {
+    let (status, text) = compare("exec \"$0\" motion", &["--files", "40", "--seed", "500"]);
+    let whole = "compared: 40 files of 32 kinds, seeds up to 501, 4 of them also in pieces; ";
+    assert!(status == 0 && text.starts_with(whole) && text.ends_with("no difference\n"), "{text}");
+    assert!(text.contains("4 ways of not reading it") && text.lines().count() == 1, "{text}");
+}
+
+#[test]
+fn a_changed_byte_is_noticed() {
+    let (text, kind, seed) = difference("\"$0\" motion | sed '1s/1/2/'", 7000);
+    assert_eq!((kind.name, seed), ("mixed", 7000), "the first file");
+    assert!(text.contains("from a file: line 1 should be \"0 1 ") && text.contains("there is \"0 2 "), "{text}");
+    let (text, kind, _) = difference("\"$0\" motion | sed 's/refused 7/refused 6/'", 7010);
+    assert!(kind.name == "refusal-7" && text.contains("refused 7 0"), "{text}");
+}
+
+#[test]
+fn a_missing_line_and_a_missing_line_end_are_noticed() {
+    let (text, ..) = difference("\"$0\" motion | sed '$d'", 7020);
+    assert!(text.contains("there is nothing\n"), "{text}");
+    let (text, ..) = difference("printf %s \"$(\"$0\" motion)\"", 7030);
+    assert!(text.contains("\\n\", and there is \"end "), "{text}");
+}
+
+#[test]
+fn a_program_that_takes_the_first_piece_for_the_whole_is_noticed() {
+    let (text, ..) = difference("dd bs=1M count=1 2>/dev/null | \"$0\" motion", 7040);
+    assert!(text.contains("in pieces: "), "{text}");
+}
+
+#[test]
+fn a_program_that_does_not_end_when_nobody_reads_is_noticed() {
+    let (text, kind, _) = difference("\"$0\" motion || exec sleep 60", 7050);
+    assert!(kind.long && text.contains("the program does not end"), "{text}");
+}
+
+#[test]
+fn an_exit_status_other_than_0_is_noticed() {
+    let (text, ..) = difference("\"$0\" motion; exit 3", 7060);
+    assert!(text.contains("ends with exit status: 3"), "{text}");
+}
+
+#[test]
+fn what_is_no_program_or_no_option_gives_status_2() {
+    let status =
+        |words: &[&str]| Command::new(PEER).arg("compare").args(words).output().expect("it runs").status.code();
+    assert_eq!(status(&["/nowhere/motion"]), Some(2));
+    assert_eq!(status(&[]), Some(2));
+    assert_eq!(status(&["true", "--files"]), Some(2));
+    assert_eq!(status(&["true", "--fields", "5"]), Some(2));
+}

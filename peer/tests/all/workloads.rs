@@ -1,0 +1,59 @@
+//! The workloads: accepted to their end, and as demanding as they are said to be.
+
+use peer::run::{Accepted, Outcome, Run, MAX_FIELDS};
+use peer::workload::{Workload, WORKLOADS};
+
+/// For each step, how many factors, terms and generators it is made on, and how many terms it folds.
+type Steps = Vec<[usize; 4]>;
+
+fn accepted(name: &str) -> Vec<Accepted> {
+    let workload: &Workload = WORKLOADS.iter().find(|workload| workload.name == name).expect("a workload");
+    Run::new(&workload.file()).map(|item| item.expect("accepted")).collect()
+}
+
+fn steps(name: &str) -> Steps {
+    let fields = accepted(name);
+    assert_eq!(fields.len(), 1 + MAX_FIELDS, "{name}");
+    let pairs = fields.windows(2).filter(|pair| pair[1].field.tag() == 2);
+    pairs
+        .map(|pair| {
+            let (set, folds) = (&pair[0].set, pair[1].folds);
+            [set.identifiers.len(), set.terms.len(), set.generators.len(), folds.by_exponent + folds.by_size]
+        })
+        .collect()
+}
+
+#[test]
+fn oscillator_steps_are_small_and_many() {
+    let steps = steps("oscillator");
+    assert!(steps.len() == 3 * MAX_FIELDS / 4 && steps.iter().all(|s| s[0] == 2 && (2..=12).contains(&s[1])));
+}
+
+#[test]
+fn dense_and_hardest_steps_are_on_full_sets() {
+    let full = |steps: &Steps| steps.iter().filter(|s| s[..3] == [12, 40, 24]).count();
+    assert_eq!(full(&steps("dense")), 7 * MAX_FIELDS / 8);
+    let hardest = steps("hardest");
+    assert_eq!(full(&hardest), MAX_FIELDS / 4);
+    assert!(hardest.iter().filter(|s| s[3] > 800).count() == MAX_FIELDS / 4, "all but a few products fold");
+}
+
+#[test]
+fn sums_have_every_kind_of_field_and_both_verdicts() {
+    let fields = accepted("sums");
+    let count = |tag| fields.iter().filter(|field| field.field.tag() == tag).count();
+    assert_eq!([2, 4, 5, 6, 7].map(count), [512, 512, 1024, 512, 1536]);
+    let safe = fields.iter().filter(|field| field.outcome == Outcome::Verdict { safe: true }).count();
+    assert!((500..1_000).contains(&safe), "{safe}");
+}
+
+#[test]
+fn growth_is_measured_on_sets_of_so_many_terms() {
+    for terms in [2, 5, 10, 20, 40] {
+        let steps = steps(&format!("terms-{terms}"));
+        let (on_terms, on_none): (Steps, Steps) = steps.iter().partition(|s| s[1] > 0);
+        assert!(on_terms.iter().all(|s| s[1] == terms) && 8 * on_none.len() < on_terms.len(), "{terms}");
+        let folded: usize = on_terms.iter().map(|s| s[3]).sum();
+        assert!(10 * folded > 9 * on_terms.len() * terms * (terms + 1) / 2, "{terms}: nearly every product folds");
+    }
+}
