@@ -1,18 +1,17 @@
 -- The loop that makes turns: what it knows after some of them.
 use mathlib.Core.Path.{_≡_, refl, sym, ap, ap₂, _∙_, subst}
 use mathlib.Core.List.{List, [], _++_, append-assoc, append-nil}
-use mathlib.Core.Bool.{Bool, true, false, cond, true≢false}
+use mathlib.Core.Bool.{Bool, true, false, true≢false}
 use Prim.Native.Nat.{ℕ, zero, suc, _+_, _-_, _≤_, _<_}
 use native.Mathlib.Decide.{decLt}
 use native.Mathlib.Omega.{arith}
-use lib.ListN.{length, drop, take, length-append, length-drop, length-take}
+use lib.ListN.{length, drop, take, length-drop}
 use lib.Seq.{drop-drop, take-all}
-use Rattle.model.specs.Run.{fieldLength, firstField}
 use Rattle.text.specs.Appended.{Appended, both, named, none-put}
 use Rattle.text.specs.Lines.{longestLine}
 use Rattle.feeding.specs.declared.Progress.{Progress}
 use Rattle.feeding.specs.declared.Fed.{Fed}
-use Rattle.feeding.specs.Fed.{Turns, noTurn, then, closed, fieldTaken, between, turned, ready, turns, fed}
+use Rattle.feeding.specs.Fed.{Turns, noTurn, then, oneTurn, canTurn, manyTurns, fed}
 use Rattle.feeding.specs.Reached.{Reached, Placed, turnsLeft}
 use Rattle.feeding.specs.Done.{Done}
 use Rattle.feeding.proofs.OneTurn.{turned-reached, turned-falls, turned-last, turned-uses, turned-within}
@@ -38,15 +37,15 @@ pub part-from : (used : ℕ) (rest : List ℕ) → take (length rest - used) (dr
 part-from used rest = take-all (length rest - used) (drop used rest) (omega (arith, length-drop used rest))
 
 pub from-part : {m : ℕ} (p : Progress) (rest : List ℕ) (used : ℕ) {before after : List ℕ} {at : ℕ} {r : Fed}
-    → Done m (turned p (take (length rest - used) (drop used rest))) before after at r → Done m (turned p (drop used rest)) before after at r
-from-part {m} p rest used {before} {after} {at} {r} d = subst (λ l. Done m (turned p l) before after at r) (part-from used rest) d
+    → Done m (oneTurn p (take (length rest - used) (drop used rest))) before after at r → Done m (oneTurn p (drop used rest)) before after at r
+from-part {m} p rest used {before} {after} {at} {r} d = subst (λ l. Done m (oneTurn p l) before after at r) (part-from used rest) d
 
 -- whether another turn can be made, as the loop asks it
 pub ready-here : (done ended : Bool) (rest : List ℕ) (used written n room : ℕ) {b x : Bool}
-    → b ≡ ready done ended (n - written) (take (length rest - used) (drop used rest)) → n ≡ room → b ≡ x
-    → ready done ended (room - written) (drop used rest) ≡ x
+    → b ≡ canTurn done ended (n - written) (take (length rest - used) (drop used rest)) → n ≡ room → b ≡ x
+    → canTurn done ended (room - written) (drop used rest) ≡ x
 ready-here done ended rest used written n room e k x =
-    sym (e ∙ ap₂ (λ m l. ready done ended (m - written) l) k (part-from used rest)) ∙ x
+    sym (e ∙ ap₂ (λ m l. canTurn done ended (m - written) l) k (part-from used rest)) ∙ x
 
 -- ---- after some turns from the progress `from`, with `rest` and a slice of `room` bytes, which was `before` and is `after`
 module _ (ended : Bool) (room : ℕ) (from : Progress) (rest before : List ℕ) where
@@ -61,7 +60,7 @@ module _ (ended : Bool) (room : ℕ) (from : Progress) (rest before : List ℕ) 
     pub later : ℕ
     pub enough : p .done ≡ false → length rest < later + used
     pub same : fed ended room from rest
-        ≡ then (record { progress = p; used = used; text = text }) (turns later ended (room - written) p (drop used rest))
+        ≡ then (record { progress = p; used = used; text = text }) (manyTurns later ended (room - written) p (drop used rest))
 
   pub underway-begins : Reached from → Placed from → Underway from 0 0 before
   unfolding fed
@@ -74,8 +73,8 @@ module _ (ended : Bool) (room : ℕ) (from : Progress) (rest before : List ℕ) 
     put = none-put before 0;
     later = suc (length rest);
     enough = λ e. omega arith;
-    same = ap (λ m. turns (suc (length rest)) ended m from rest) (omega arith)
-        ∙ sym (none-then from (turns (suc (length rest)) ended (room - 0) from rest));
+    same = ap (λ m. manyTurns (suc (length rest)) ended m from rest) (omega arith)
+        ∙ sym (none-then from (manyTurns (suc (length rest)) ended (room - 0) from rest));
   }
 
   module _ {p : Progress} {used written : ℕ} {after : List ℕ} (u : Underway p used written after) where
@@ -86,7 +85,7 @@ module _ (ended : Bool) (room : ℕ) (from : Progress) (rest before : List ℕ) 
     left = drop used rest
 
     -- where no other can be made, that was all
-    pub underway-ends : ready (p .done) ended (room - written) left ≡ false
+    pub underway-ends : canTurn (p .done) ended (room - written) left ≡ false
         → Done room (fed ended room from rest) before after 0 (record { progress = p; used = used; written = written })
     underway-ends e =
         let all : fed ended room from rest ≡ sofar =
@@ -94,12 +93,12 @@ module _ (ended : Bool) (room : ℕ) (from : Progress) (rest before : List ℕ) 
         subst (λ (t : Turns). Done room t before after 0 (record { progress = p; used = used; written = written })) (sym all)
         (record { progress = refl; used = refl; text = named (u .fits) refl (u .put) })
       where
-        stopped : (n m : ℕ) (l : List ℕ) → ready (p .done) ended m l ≡ false → turns n ended m p l ≡ noTurn p
+        stopped : (n m : ℕ) (l : List ℕ) → canTurn (p .done) ended m l ≡ false → manyTurns n ended m p l ≡ noTurn p
         stopped zero m l e = no-turns ended m p l
         stopped (suc n) m l e = turns-stop n ended m p l e
 
     -- another turn
-    module _ (e : ready (p .done) ended (room - written) left ≡ true) where
+    module _ (e : canTurn (p .done) ended (room - written) left ≡ true) where
       on : p .done ≡ false
       on = ready-on ended (room - written) p left e
 
@@ -107,7 +106,7 @@ module _ (ended : Bool) (room : ℕ) (from : Progress) (rest before : List ℕ) 
       room-left = omega (arith, ready-room ended (room - written) p left e, u .fits)
 
       abbrev t : Turns
-      t = turned p left
+      t = oneTurn p left
 
       -- it uses a byte, or is the last
       used-or-last : (n : ℕ) → u .later ≡ suc n → t .progress .done ≡ false → length rest < n + (used + t .used)
@@ -119,13 +118,13 @@ module _ (ended : Bool) (room : ℕ) (from : Progress) (rest before : List ℕ) 
 
       same-then : (n w : ℕ) → u .later ≡ suc n → w ≡ written + length (t .text)
           → fed ended room from rest
-          ≡ then (then sofar t) (turns n ended (room - w) (t .progress) (drop (used + t .used) rest))
+          ≡ then (then sofar t) (manyTurns n ended (room - w) (t .progress) (drop (used + t .used) rest))
       same-then n w z k =
           u .same
-          ∙ ap (λ m. then sofar (turns m ended (room - written) p left)) z
+          ∙ ap (λ m. then sofar (manyTurns m ended (room - written) p left)) z
           ∙ ap (then sofar) (turns-go-on n ended (room - written) p left e)
-          ∙ then-assoc sofar t (turns n ended (room - written - length (t .text)) (t .progress) (drop (t .used) left))
-          ∙ ap₂ (λ m l. then (then sofar t) (turns n ended m (t .progress) l)) (omega arith) (drop-drop (t .used) used rest)
+          ∙ then-assoc sofar t (manyTurns n ended (room - written - length (t .text)) (t .progress) (drop (t .used) left))
+          ∙ ap₂ (λ m l. then (then sofar t) (manyTurns n ended m (t .progress) l)) (omega arith) (drop-drop (t .used) used rest)
 
       next : {after' : List ℕ} {r : Fed} → Done longestLine t after after' written r → Placed (t .progress)
           → Underway (t .progress) (used + t .used) (r .written) after'

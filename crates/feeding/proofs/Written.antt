@@ -1,12 +1,12 @@
 -- What functions that make turns answer, by what their calls do.
-use mathlib.Core.Path.{_≡_, refl, sym, ap, ap₂, _∙_, subst}
-use mathlib.Core.List.{List, [], _++_}
-use mathlib.Core.Bool.{Bool, true, false, not, cond, _&&_, _||_, true≢false}
-use Prim.Native.Nat.{ℕ, zero, suc, _+_, _-_, _*_, _≤_, _<_}
+use mathlib.Core.Path.{_≡_, sym, ap, ap₂, subst}
+use mathlib.Core.List.{List}
+use mathlib.Core.Bool.{true, false, not, cond, true≢false}
+use Prim.Native.Nat.{ℕ, _+_, _≤_, _<_}
 use native.Mathlib.Omega.{arith}
 use borrow.Author.Tests.{eqb-false, not-true}
 use lib.Dec.{eqb}
-use lib.ListN.{length, drop, take}
+use lib.ListN.{length}
 use Rattle.model.specs.Limits.{recordIdentifiers}
 use Rattle.model.specs.Set.{Zonotope}
 use Rattle.model.specs.Library.{examine}
@@ -14,7 +14,7 @@ use Rattle.model.specs.Run.{tag, firstField}
 use Rattle.model.proofs.Tests.{and-true}
 use Rattle.model.proofs.Shape.{Valid}
 use Rattle.model.proofs.Cutting.{goes-on}
-use Rattle.text.specs.Appended.{Appended, both, named, none-put}
+use Rattle.text.specs.Appended.{Appended}
 use Rattle.text.specs.Lines.{longestLine}
 use Rattle.zonotope.specs.Record.{view, pack, given}
 use Rattle.zonotope.specs.Valid.{valid}
@@ -32,8 +32,8 @@ use Rattle.printing.specs.Line.{answerLine}
 use Rattle.printing.specs.Brief.{sound-sides}
 use Rattle.feeding.specs.declared.Progress.{Progress}
 use Rattle.feeding.specs.declared.Fed.{Fed}
-use Rattle.feeding.specs.Fed.{Turns, noTurn, then, closed, fieldTaken, between, turned, ready, turns, fed}
-use Rattle.feeding.specs.Reached.{Reached, Placed, longestField, turnsLeft}
+use Rattle.feeding.specs.Fed.{Turns, closed, fieldTaken, between, oneTurn}
+use Rattle.feeding.specs.Reached.{Reached, Placed, longestField}
 use Rattle.feeding.specs.Done.{Done}
 
 -- ---- a field
@@ -91,8 +91,8 @@ field-done p f {before} {after} {at} {k} {answer = answer} n a s e x = record {
 }
 
 -- ---- one turn
-pub turn-done : (p : Progress) (rest : List ℕ) {t : Turns} {before after : List ℕ} {at : ℕ} {r : Fed} → turned p rest ≡ t
-    → Done longestLine t before after at r → Done longestLine (turned p rest) before after at r
+pub turn-done : (p : Progress) (rest : List ℕ) {t : Turns} {before after : List ℕ} {at : ℕ} {r : Fed} → oneTurn p rest ≡ t
+    → Done longestLine t before after at r → Done longestLine (oneTurn p rest) before after at r
 turn-done p rest {before = before} {after} {at} {r} e d = subst (λ (t : Turns). Done longestLine t before after at r) (sym e) d
 
 pub turn-placed : {t : Turns} {before after : List ℕ} {at : ℕ} {r : Fed} → Done longestLine t before after at r → Placed (t .progress)
@@ -106,12 +106,12 @@ closed-placed p d = turn-placed d (λ e. absurd (true≢false e))
 
 -- by whether anything is left
 module _ (p : Progress) (rest : List ℕ) where
-  pub turned-closed : between p rest ≡ true → turned p rest ≡ closed p
-  unfolding turned
+  pub turned-closed : between p rest ≡ true → oneTurn p rest ≡ closed p
+  unfolding oneTurn
   turned-closed e = ap (λ b. cond b (closed p) (fieldTaken p (firstField rest))) e
 
-  pub turned-taken : between p rest ≡ false → turned p rest ≡ fieldTaken p (firstField rest)
-  unfolding turned
+  pub turned-taken : between p rest ≡ false → oneTurn p rest ≡ fieldTaken p (firstField rest)
+  unfolding oneTurn
   turned-taken e = ap (λ b. cond b (closed p) (fieldTaken p (firstField rest))) e
 
   -- a run is closed only after a field was accepted

@@ -1,14 +1,13 @@
 // A run from input that comes in pieces: whole fields are taken from what was read so far, and their lines written into a lent slice. The
 // functions ask for a progress that calls can lead to; `feed` is for any caller.
 ghost use mathlib.Core.Path.{_≡_};
-ghost use mathlib.Core.Bool.{false, not, _||_};
+ghost use mathlib.Core.Bool.{false, not};
 ghost use Prim.Native.Nat.{_+_, _≤_, _<_};
-ghost use lib.Dec.{ltb};
 ghost use lib.ListN.{length};
 ghost use Rattle.model.specs.Run.{cut, firstField};
 ghost use Rattle.text.specs.Lines.{longestLine};
 ghost use Rattle.stepping.specs.Work.{workNumbers, workExponents};
-ghost use Rattle.feeding.specs.Fed.{starting, closed, fieldTaken, turned, ready, fed};
+ghost use Rattle.feeding.specs.Fed.{starting, closed, fieldTaken, oneTurn, canTurn, fed};
 ghost use Rattle.feeding.specs.Reached.{Reached, Placed, longestField};
 ghost use Rattle.feeding.specs.Done.{Done};
 use states::State;
@@ -59,7 +58,7 @@ pub fn feed(
     let mut progress = p;
     let mut used = 0;
     let mut written = 0;
-    while is_ready(progress.done, ended, &rest[used..], out.len() - written) {
+    while can_turn(progress.done, ended, &rest[used..], out.len() - written) {
         let t = turn(progress, &rest[used..], out, written, numbers, exponents);
         let next = t.progress;
         progress = next;
@@ -84,7 +83,7 @@ fn turn(
 ) -> Fed
     requires { ⌜ Reached p × Placed p × (p .done ≡ false) × (at + longestLine ≤ length (now out))
         × (workNumbers ≤ length (now numbers)) × (workExponents ≤ length (now exponents)) ⌝ }
-    ensures { λ r. ⌜ Done longestLine (turned p (now (rest .entry))) (now (out .entry)) (now (out .exit)) at r × Placed (r .progress) ⌝ }
+    ensures { λ r. ⌜ Done longestLine (oneTurn p (now (rest .entry))) (now (out .entry)) (now (out .exit)) at r × Placed (r .progress) ⌝ }
 {
     let count = p.state.count;
     if (rest.len() == 0) & (count != 0) {
@@ -169,8 +168,8 @@ fn first_length(rest: &[u8]) -> usize
 }
 
 // Whether another turn can be made.
-fn is_ready(done: bool, ended: bool, rest: &[u8], room: usize) -> bool
-    ensures { λ r. ⌜ r ≡ ready done ended room (now (rest .entry)) ⌝ }
+fn can_turn(done: bool, ended: bool, rest: &[u8], room: usize) -> bool
+    ensures { λ r. ⌜ r ≡ canTurn done ended room (now (rest .entry)) ⌝ }
 {
     if done {
         return false;

@@ -2,7 +2,7 @@
 use mathlib.Core.Path.{_≡_, refl, sym, ap, ap₂, _∙_, subst}
 use mathlib.Core.Bool.{Bool, true, false, not, cond, _||_, true≢false}
 use mathlib.Core.List.{List, [], _∷_, _++_, append-assoc, append-nil}
-use Prim.Native.Nat.{ℕ, zero, suc, _+_, _-_, _*_, _≤_, _<_}
+use Prim.Native.Nat.{ℕ, _+_, _-_, _≤_, _<_}
 use native.Mathlib.Omega.{arith}
 use borrow.Author.Tests.{eqb-true, eqb-false, not-true}
 use Rattle.whole.specs.Tests.{or-left, or-right}
@@ -12,7 +12,6 @@ use lib.Seq.{length-take-le, take-append-add, take-append-le}
 use Rattle.model.specs.Run.{cut}
 use Rattle.model.specs.Text.{printed}
 use Rattle.model.specs.Rest.{printedFrom}
-use Rattle.text.specs.Appended.{Appended}
 use Rattle.text.specs.Lines.{longestLine}
 use Rattle.states.specs.State.{viewed}
 use Rattle.console.specs.declared.Input.{Input}
@@ -22,28 +21,28 @@ use Rattle.console.specs.Trace.{noInput, noOutput, took, wrote, FilledFrom}
 use Rattle.feeding.specs.declared.Progress.{Progress}
 use Rattle.feeding.specs.declared.Fed.{Fed}
 use Rattle.feeding.specs.Fed as Feeding
-use Rattle.feeding.specs.Fed.{Turns, ready, fed}
+use Rattle.feeding.specs.Fed.{Turns, fed}
 use Rattle.feeding.specs.Reached.{Reached, Placed, remaining, turnsLeft}
 use Rattle.feeding.specs.Done.{Done}
 use Rattle.feeding.proofs.Turns.{fed-reached, fed-within, fed-place, fed-no-more, fed-falls, fed-prints, ready-by}
 use Rattle.feeding.proofs.Pieces.{starting-reached, starting-prints}
 use Rattle.motion.specs.declared.Flow.{Flow}
-use Rattle.motion.specs.Streamed.{Read, tookAll, bytesOf, wroteAll, joined, EndRead, Streamed}
-use Rattle.motion.specs.Along.{starting, rest, Along, Refilled, callsLeft}
+use Rattle.motion.specs.Streamed.{Read, tookAll, bytesOf, wroteAll, handedOver, EndRead, Streamed}
+use Rattle.motion.specs.Along.{startingFlow, heldBytes, Along, Refilled, callsLeft}
 use Rattle.motion.proofs.Traces.{took-more, bytes-more, wrote-more, joined-more}
 
 -- ---- the start
-pub begun : {p : Progress} {i : Input} {o : Output} → p ≡ Feeding.starting → i ≡ noInput → o ≡ noOutput
-    → record { progress = p; held = 0; ended = false; failed = false; input = i; output = o } ≡ starting
-begun e g h = ap₃ e g h
+pub flow-begun : {p : Progress} {i : Input} {o : Output} → p ≡ Feeding.starting → i ≡ noInput → o ≡ noOutput
+    → record { progress = p; held = 0; ended = false; failed = false; input = i; output = o } ≡ startingFlow
+flow-begun e g h = ap₃ e g h
   where
     ap₃ : {p q : Progress} {i j : Input} {o u : Output} → p ≡ q → i ≡ j → o ≡ u
         → _≡_ {A = Flow} (record { progress = p; held = 0; ended = false; failed = false; input = i; output = o })
         (record { progress = q; held = 0; ended = false; failed = false; input = j; output = u })
     ap₃ e g h = rw (e, g, h)
 
-pub along-begins : (buffer : List ℕ) → Along starting buffer
-unfolding tookAll wroteAll bytesOf joined
+pub along-begins : (buffer : List ℕ) → Along startingFlow buffer
+unfolding tookAll wroteAll bytesOf handedOver
 along-begins buffer = record {
   reached = starting-reached;
   placed = λ e. omega arith;
@@ -57,7 +56,7 @@ along-begins buffer = record {
 }
 
 -- ---- reading on
-pub no-read : (f : Flow) (buffer : List ℕ) → Along f buffer → {b : Bool} → b ≡ not (cut (rest f buffer)) → f .ended || b ≡ true
+pub no-read : (f : Flow) (buffer : List ℕ) → Along f buffer → {b : Bool} → b ≡ not (cut (heldBytes f buffer)) → f .ended || b ≡ true
     → Refilled f f buffer
 no-read f buffer a e h = record {
   along = a;
@@ -94,7 +93,7 @@ module _ (f : Flow) (buffer B P : List ℕ) (a : Along f buffer) (on : f .ended 
   abbrev after : List ℕ
   after = take (f .held) buffer ++ (B ++ P)
 
-  rest-more : rest next after ≡ rest f buffer ++ bytes
+  rest-more : heldBytes next after ≡ heldBytes f buffer ++ bytes
   rest-more =
       let H = take (f .held) buffer in
       let n = length-take-le (f .held) buffer (a .within) in
@@ -110,13 +109,13 @@ module _ (f : Flow) (buffer B P : List ℕ) (a : Along f buffer) (on : f .ended 
   }
 
   read-prints : (more : List ℕ) → (eqb (r .count) 0 ≡ true → more ≡ [])
-      → printed (bytesOf (a .reads ++ (this ∷ [])) ++ more) ≡ joined (a .writes) ++ remaining (f .progress) (rest next after ++ more)
+      → printed (bytesOf (a .reads ++ (this ∷ [])) ++ more) ≡ handedOver (a .writes) ++ remaining (f .progress) (heldBytes next after ++ more)
   read-prints more last =
       ap (λ l. printed (l ++ more)) (bytes-more (a .reads) this)
       ∙ ap printed (append-assoc (bytesOf (a .reads)) bytes more)
       ∙ a .prints (bytes ++ more) (λ e. absurd (true≢false (sym e ∙ on)))
-      ∙ ap (λ l. joined (a .writes) ++ remaining (f .progress) l)
-      (sym (append-assoc (rest f buffer) bytes more) ∙ ap (_++ more) (sym rest-more))
+      ∙ ap (λ l. handedOver (a .writes) ++ remaining (f .progress) l)
+      (sym (append-assoc (heldBytes f buffer) bytes more) ∙ ap (_++ more) (sym rest-more))
 
   pub one-read : Refilled f next after
   one-read = record {
@@ -139,13 +138,13 @@ module _ (f : Flow) (buffer B P : List ℕ) (a : Along f buffer) (on : f .ended 
 
 -- ---- taking fields and writing their lines
 module _ (f g : Flow) (buffer : List ℕ) (a : Along g buffer) (room : ℕ) {out out' : List ℕ} (r : Fed)
-    (d : Done room (fed (g .ended) room (g .progress) (rest g buffer)) out out' 0 r) (placed : Placed (r .progress)) where
+    (d : Done room (fed (g .ended) room (g .progress) (heldBytes g buffer)) out out' 0 r) (placed : Placed (r .progress)) where
   abbrev t : Turns
-  t = fed (g .ended) room (g .progress) (rest g buffer)
+  t = fed (g .ended) room (g .progress) (heldBytes g buffer)
 
   pub used-within : r .used ≤ g .held
   used-within =
-      omega (arith, d .used, fed-within (g .ended) room (g .progress) (rest g buffer) (a .reached), length-take (g .held) buffer)
+      omega (arith, d .used, fed-within (g .ended) room (g .progress) (heldBytes g buffer) (a .reached), length-take (g .held) buffer)
 
   -- what is handed over is their text
   pub text-written : take (r .written) out' ≡ t .text
@@ -156,7 +155,7 @@ module _ (f g : Flow) (buffer : List ℕ) (a : Along g buffer) (room : ℕ) {out
   written-within = omega (arith, d .text .ends, d .text .short)
 
   module _ (o : Output) (sent : o ≡ wrote (g .output) (take (r .written) out')) (failed : Bool) (after : List ℕ)
-      (moved : take (g .held - r .used) after ≡ drop (r .used) (rest g buffer)) (same : length after ≡ length buffer) where
+      (moved : take (g .held - r .used) after ≡ drop (r .used) (heldBytes g buffer)) (same : length after ≡ length buffer) where
     abbrev then : Flow
     then = record {
       progress = r .progress;
@@ -169,17 +168,17 @@ module _ (f g : Flow) (buffer : List ℕ) (a : Along g buffer) (room : ℕ) {out
 
     turn-prints : (more : List ℕ) → (g .ended ≡ true → more ≡ [])
         → printed (bytesOf (a .reads) ++ more)
-        ≡ joined (a .writes ++ (t .text ∷ [])) ++ remaining (r .progress) (rest then after ++ more)
+        ≡ handedOver (a .writes ++ (t .text ∷ [])) ++ remaining (r .progress) (heldBytes then after ++ more)
     turn-prints more last =
         a .prints more last
-        ∙ ap (joined (a .writes) ++_) (fed-prints (g .ended) room (g .progress) (rest g buffer) (a .reached) more last)
-        ∙ sym (append-assoc (joined (a .writes)) (t .text) _)
+        ∙ ap (handedOver (a .writes) ++_) (fed-prints (g .ended) room (g .progress) (heldBytes g buffer) (a .reached) more last)
+        ∙ sym (append-assoc (handedOver (a .writes)) (t .text) _)
         ∙ ap₂ _++_ (sym (joined-more (a .writes) (t .text)))
-        (ap₂ (λ p l. remaining p (l ++ more)) (sym (d .progress)) (ap (λ n. drop n (rest g buffer)) (sym (d .used)) ∙ sym moved))
+        (ap₂ (λ p l. remaining p (l ++ more)) (sym (d .progress)) (ap (λ n. drop n (heldBytes g buffer)) (sym (d .used)) ∙ sym moved))
 
     pub turn-along : Along then after
     turn-along = record {
-      reached = subst Reached (sym (d .progress)) (fed-reached (g .ended) room (g .progress) (rest g buffer) (a .reached));
+      reached = subst Reached (sym (d .progress)) (fed-reached (g .ended) room (g .progress) (heldBytes g buffer) (a .reached));
       placed = placed;
       within = omega (arith, a .within);
       reads = a .reads;
@@ -201,16 +200,16 @@ module _ (f g : Flow) (buffer : List ℕ) (a : Along g buffer) (room : ℕ) {out
       turns-no-more : turnsLeft (r .progress) ≤ turnsLeft p
       turns-no-more =
           subst (λ (q : Progress). turnsLeft q ≤ turnsLeft p) (sym (d .progress))
-          (fed-no-more (g .ended) room p (rest g buffer) (a .reached))
+          (fed-no-more (g .ended) room p (heldBytes g buffer) (a .reached))
 
-      fewer-turns : g .ended || not (cut (rest g buffer)) ≡ true → turnsLeft (r .progress) < turnsLeft p
+      fewer-turns : g .ended || not (cut (heldBytes g buffer)) ≡ true → turnsLeft (r .progress) < turnsLeft p
       fewer-turns e =
           subst (λ (q : Progress). turnsLeft q < turnsLeft p) (sym (d .progress))
-          (fed-falls (g .ended) room p (rest g buffer) (a .reached) (ready-by (g .ended) room p (rest g buffer) going e large))
+          (fed-falls (g .ended) room p (heldBytes g buffer) (a .reached) (ready-by (g .ended) room p (heldBytes g buffer) going e large))
 
       next-place : r .progress .place ≡ p .place + r .used
       next-place =
-          ap (λ (q : Progress). q .place) (d .progress) ∙ fed-place (g .ended) room p (rest g buffer) (a .reached)
+          ap (λ (q : Progress). q .place) (d .progress) ∙ fed-place (g .ended) room p (heldBytes g buffer) (a .reached)
           ∙ ap (p .place +_) (sym (d .used))
 
       place-below : p .place + g .held < 270000000
@@ -218,9 +217,9 @@ module _ (f g : Flow) (buffer : List ℕ) (a : Along g buffer) (room : ℕ) {out
       place-below = omega (arith, a .placed going, a .reached .sound .count-in, a .within)
 
       from-here : callsLeft then < turnsLeft p + (270000000 - (p .place + f .held))
-      from-here = go (g .ended || not (cut (rest g buffer))) refl
+      from-here = go (g .ended || not (cut (heldBytes g buffer))) refl
         where
-          go : (b : Bool) → g .ended || not (cut (rest g buffer)) ≡ b
+          go : (b : Bool) → g .ended || not (cut (heldBytes g buffer)) ≡ b
               → turnsLeft (r .progress) + (270000000 - (r .progress .place + (g .held - r .used)))
               < turnsLeft p + (270000000 - (p .place + f .held))
           go true e = omega (arith, fewer-turns e, next-place, used-within, refilled .no-less)
@@ -231,7 +230,7 @@ module _ (f g : Flow) (buffer : List ℕ) (a : Along g buffer) (room : ℕ) {out
           subst (λ (q : Progress). callsLeft then < turnsLeft q + (270000000 - (q .place + f .held))) (refilled .progress) from-here
 
 -- ---- the loop
-pub starts : {f : Flow} (buffer : List ℕ) → f ≡ starting → Along f buffer × (false ≡ f .failed || f .progress .done)
+pub starts : {f : Flow} (buffer : List ℕ) → f ≡ startingFlow → Along f buffer × (false ≡ f .failed || f .progress .done)
 starts buffer e = subst (λ (f : Flow). Along f buffer × (false ≡ f .failed || f .progress .done)) (sym e) (along-begins buffer, refl)
 
 pub not-done : (over : Bool) (f : Flow) → over ≡ f .failed || f .progress .done → not over ≡ true → f .progress .done ≡ false
@@ -239,9 +238,9 @@ not-done over f e h = or-right (f .failed) (f .progress .done) (sym e ∙ not-tr
 
 -- ---- the end
 nothing-left : (f : Flow) (l : List ℕ) (ws : List (List ℕ)) → f .progress .done ≡ true
-    → joined ws ++ remaining (f .progress) l ≡ joined ws
+    → handedOver ws ++ remaining (f .progress) l ≡ handedOver ws
 nothing-left f l ws d =
-    ap (λ b. joined ws ++ cond b [] (printedFrom (f .progress .place) (viewed (f .progress .state)) l)) d ∙ append-nil (joined ws)
+    ap (λ b. handedOver ws ++ cond b [] (printedFrom (f .progress .place) (viewed (f .progress .state)) l)) d ∙ append-nil (handedOver ws)
 
 pub streamed : (f : Flow) (buffer : List ℕ) → Along f buffer → f .failed || f .progress .done ≡ true → Streamed f
 streamed f buffer a over = record {
@@ -250,8 +249,8 @@ streamed f buffer a over = record {
   input = a .input;
   output = a .output;
   end-read = a .end-read;
-  all = λ went more last. sym (a .prints more last ∙ nothing-left f (rest f buffer ++ more) (a .writes) (by-done went));
-  begins = λ more last. (remaining (f .progress) (rest f buffer ++ more), a .prints more last);
+  all = λ went more last. sym (a .prints more last ∙ nothing-left f (heldBytes f buffer ++ more) (a .writes) (by-done went));
+  begins = λ more last. (remaining (f .progress) (heldBytes f buffer ++ more), a .prints more last);
 }
   where
     second-true : (x y : Bool) → x || y ≡ true → x ≡ false → y ≡ true

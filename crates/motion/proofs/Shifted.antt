@@ -3,10 +3,9 @@ use mathlib.Core.Path.{_≡_, refl, sym, ap, ap₂, _∙_}
 use mathlib.Core.List.{List, [], _∷_, _++_}
 use Prim.Native.Nat.{ℕ, zero, suc, _+_, _-_, _≤_, _<_}
 use native.Mathlib.Nat.{le-of-suc-le-suc}
-use native.Mathlib.Numerals.{add-one}
 use native.Mathlib.Omega.{arith}
 use lib.ListN.{length, getD, take, drop, set, length-drop}
-use lib.Seq.{take-suc, take-suc-set, drop-set-lt, getD-drop, drop-drop, drop-nil, take-nil}
+use lib.Seq.{take-suc, take-suc-set, drop-set-lt, getD-drop, drop-drop, take-nil}
 
 -- a part, by its start first or by its end first
 pub drop-take : {A : Type 0} (i j : ℕ) (l : List A) → i ≤ j → drop i (take j l) ≡ take (j - i) (drop i l)

@@ -5,7 +5,7 @@ use Prim.Native.Nat.{ℕ}
 use Rattle.console.specs.declared.Input.{Input}
 use Rattle.console.specs.declared.Output.{Output}
 use Rattle.console.specs.Trace.{took, wrote}
-use Rattle.motion.specs.Streamed.{Read, tookAll, bytesOf, wroteAll, joined}
+use Rattle.motion.specs.Streamed.{Read, tookAll, bytesOf, wroteAll, handedOver}
 
 pub took-more : (i : Input) (rs : List Read) (r : Read) → tookAll i (rs ++ (r ∷ [])) ≡ took (tookAll i rs) (r .asked) (r .bytes)
 unfolding tookAll
@@ -22,7 +22,7 @@ unfolding wroteAll
 wrote-more o [] w = refl
 wrote-more o (v ∷ ws) w = wrote-more (wrote o v) ws w
 
-pub joined-more : (ws : List (List ℕ)) (w : List ℕ) → joined (ws ++ (w ∷ [])) ≡ joined ws ++ w
-unfolding joined
+pub joined-more : (ws : List (List ℕ)) (w : List ℕ) → handedOver (ws ++ (w ∷ [])) ≡ handedOver ws ++ w
+unfolding handedOver
 joined-more [] w = append-nil w
-joined-more (v ∷ ws) w = ap (v ++_) (joined-more ws w) ∙ sym (append-assoc v (joined ws) w)
+joined-more (v ∷ ws) w = ap (v ++_) (joined-more ws w) ∙ sym (append-assoc v (handedOver ws) w)

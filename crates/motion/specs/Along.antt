@@ -10,11 +10,11 @@ use Rattle.console.specs.Trace.{noInput, noOutput}
 use Rattle.feeding.specs.Fed as Feeding
 use Rattle.feeding.specs.Reached.{Reached, Placed, remaining, turnsLeft}
 use Rattle.motion.specs.declared.Flow.{Flow}
-use Rattle.motion.specs.Streamed.{Read, tookAll, bytesOf, wroteAll, joined, EndRead}
+use Rattle.motion.specs.Streamed.{Read, tookAll, bytesOf, wroteAll, handedOver, EndRead}
 
 -- before the first turn
-abbrev pub starting : Flow
-starting = record {
+abbrev pub startingFlow : Flow
+startingFlow = record {
   progress = Feeding.starting;
   held = 0;
   ended = false;
@@ -24,8 +24,8 @@ starting = record {
 }
 
 -- the bytes that are not used yet
-abbrev pub rest : Flow → List ℕ → List ℕ
-rest f buffer = take (f .held) buffer
+abbrev pub heldBytes : Flow → List ℕ → List ℕ
+heldBytes f buffer = take (f .held) buffer
 
 -- after some turns
 pub record Along (f : Flow) (buffer : List ℕ) : Type 0 where
@@ -39,14 +39,14 @@ pub record Along (f : Flow) (buffer : List ℕ) : Type 0 where
   pub end-read : f .ended ≡ true → EndRead reads
   -- what was written, and what is still to be printed
   pub prints : (more : List ℕ) → (f .ended ≡ true → more ≡ [])
-      → printed (bytesOf reads ++ more) ≡ joined writes ++ remaining (f .progress) (rest f buffer ++ more)
+      → printed (bytesOf reads ++ more) ≡ handedOver writes ++ remaining (f .progress) (heldBytes f buffer ++ more)
 
 -- after reading on: the run stays as it is, and where it can't go on yet a byte more is there
 pub record Refilled (f r : Flow) (after : List ℕ) : Type 0 where
   pub along : Along r after
   pub progress : r .progress ≡ f .progress
   pub no-less : f .held ≤ r .held
-  pub more : r .ended || not (cut (rest r after)) ≡ false → f .held < r .held
+  pub more : r .ended || not (cut (heldBytes r after)) ≡ false → f .held < r .held
 
 -- how many turns can follow at most: those of the run, and those that read a byte more
 abbrev pub callsLeft : Flow → ℕ

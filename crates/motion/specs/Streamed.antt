@@ -30,9 +30,9 @@ wroteAll o [] = o
 wroteAll o (w ∷ ws) = wroteAll (wrote o w) ws
 
 -- all bytes that they handed over
-unfoldable pub joined : List (List ℕ) → List ℕ
-joined [] = []
-joined (w ∷ ws) = w ++ joined ws
+unfoldable pub handedOver : List (List ℕ) → List ℕ
+handedOver [] = []
+handedOver (w ∷ ws) = w ++ handedOver ws
 
 -- the last read asked for bytes and got none
 pub record EndRead (rs : List Read) : Type 0 where
@@ -51,7 +51,7 @@ pub record Streamed (f : Flow) : Type 0 where
   -- it says that the input has ended only where a read met the end
   pub end-read : f .ended ≡ true → EndRead reads
   -- Where no write failed, what was written is what is printed for what was read, whatever may follow that; nothing does after the end.
-  pub all : f .failed ≡ false → (more : List ℕ) → (f .ended ≡ true → more ≡ []) → joined writes ≡ printed (bytesOf reads ++ more)
+  pub all : f .failed ≡ false → (more : List ℕ) → (f .ended ≡ true → more ≡ []) → handedOver writes ≡ printed (bytesOf reads ++ more)
   -- Else it is how that begins.
   pub begins : (more : List ℕ) → (f .ended ≡ true → more ≡ [])
-      → (later : List ℕ) × (printed (bytesOf reads ++ more) ≡ joined writes ++ later)
+      → (later : List ℕ) × (printed (bytesOf reads ++ more) ≡ handedOver writes ++ later)

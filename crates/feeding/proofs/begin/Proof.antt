@@ -3,7 +3,6 @@ use mathlib.Core.Path.{ap}
 use mathlib.Core.Bool.{false}
 use Rattle.states.specs.declared.State.{State}
 use borrow.Author.Needs.{needs}
-use native.Mathlib.Omega.{arith}
 use Rattle.feeding.proofs.begin.Statement.{statement}
 use Rattle.feeding.proofs.begin.Tie as tie
 

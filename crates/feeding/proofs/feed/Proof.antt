@@ -1,5 +1,5 @@
 -- `feeding::feed` meets its contract. The measure is the number of turns that can follow.
-use mathlib.Core.Path.{_≡_, refl, sym, ap, _∙_, subst}
+use mathlib.Core.Path.{_≡_, refl, _∙_}
 use mathlib.Core.Bool.{true}
 use Prim.Native.Nat.{_+_, _-_}
 use lib.ListN.{length, drop}
@@ -7,10 +7,10 @@ use denote.Ref.{now}
 use borrow.Author.Needs.{needs}
 use native.Mathlib.Omega.{arith}
 use Rattle.text.specs.Lines.{longestLine}
-use Rattle.feeding.specs.Fed.{turned, ready}
+use Rattle.feeding.specs.Fed.{oneTurn, canTurn}
 use Rattle.feeding.specs.Done.{Done}
 use Rattle.feeding.specs.Reached.{turnsLeft}
-use Rattle.feeding.proofs.Turns.{ready-on, ready-room}
+use Rattle.feeding.proofs.Turns.{ready-on}
 use Rattle.feeding.proofs.Underway.{Underway, from-part, ready-here, room-left, underway-begins, underway-ends, underway-goes-on, underway-falls}
 use Rattle.feeding.proofs.feed.Statement.{statement}
 use Rattle.feeding.proofs.feed.Tie as tie
@@ -26,17 +26,17 @@ abbrev μ-loop : tie.MeasureT-loop
 
 -- the test of the loop
 can : (c : tie.Then1 Inv-loop μ-loop) → (let l = c .before .before .before .loop in let s = c .before .before .before .before .before .before .before in
-    ready (l .progress .done) (s .args .ended) (length (now (s .args .out)) - l .written) (drop (l .used) (now (s .args .rest))) ≡ true)
+    canTurn (l .progress .done) (s .args .ended) (length (now (s .args .out)) - l .written) (drop (l .used) (now (s .args .rest))) ≡ true)
 can c =
     let l = c .before .before .before .loop in
     let s = c .before .before .before .before .before .before .before in
     ready-here (l .progress .done) (s .args .ended) (now (s .args .rest)) (l .used) (l .written) (length (l .out)) (length (now (s .args .out)))
-    (c .before .is-ready .ensures) (l .inv .0) (c .if1 .taken)
+    (c .before .can-turn .ensures) (l .inv .0) (c .if1 .taken)
 
 -- a turn
 module _ (c : tie.After-struct-known Inv-loop μ-loop) where
   made : (let l = c .before .before .before .before .before .before .before .before .before .before .before .before .before .before .before .loop in let t = c .before .before .before .before .before .before .before .turn in
-      Done longestLine (turned (l .progress) (drop (l .used) (now (c .before .before .before .before .before .before .before .before .before .before .before .before .before .before .before .before .before .before .before .args .rest)))) (l .out) (t .last .1 .1 .0) (l .written) (t .result))
+      Done longestLine (oneTurn (l .progress) (drop (l .used) (now (c .before .before .before .before .before .before .before .before .before .before .before .before .before .before .before .before .before .before .before .args .rest)))) (l .out) (t .last .1 .1 .0) (l .written) (t .result))
   made = from-part (c .before .before .before .before .before .before .before .before .before .before .before .before .before .before .before .loop .progress) (now (c .before .before .before .before .before .before .before .before .before .before .before .before .before .before .before .before .before .before .before .args .rest)) (c .before .before .before .before .before .before .before .before .before .before .before .before .before .before .before .loop .used) (c .before .before .before .before .before .before .before .turn .ensures .0)
 
   next : (let l = c .before .before .before .before .before .before .before .before .before .before .before .before .before .before .before .loop in let s = c .before .before .before .before .before .before .before .before .before .before .before .before .before .before .before .before .before .before .before in let r = c .before .before .before .before .before .before .before .turn .result in
@@ -49,20 +49,20 @@ loop-holds c =
     let s = c .before .before .before in
     (refl, refl, refl, underway-begins _ _ (s .args .p) _ _ (s .pre .0) (s .pre .1))
 
-sub-is-ready : tie.Need-sub-is-ready Inv-loop μ-loop
-sub-is-ready c = c .loop .inv .3 .within
+sub-can-turn : tie.Need-sub-can-turn Inv-loop μ-loop
+sub-can-turn c = c .loop .inv .3 .within
 
-part-is-ready-start : tie.Need-part-is-ready-start Inv-loop μ-loop
-part-is-ready-start c = omega (arith, c .loop .inv .3 .within)
+part-can-turn-start : tie.Need-part-can-turn-start Inv-loop μ-loop
+part-can-turn-start c = omega (arith, c .loop .inv .3 .within)
 
-part-is-ready-end : tie.Need-part-is-ready-end Inv-loop μ-loop
-part-is-ready-end c = search needs
+part-can-turn-end : tie.Need-part-can-turn-end Inv-loop μ-loop
+part-can-turn-end c = search needs
 
-sub-is-ready-2 : tie.Need-sub-is-ready-2 Inv-loop μ-loop
-sub-is-ready-2 c = omega (arith, c .before .loop .inv .0, c .before .loop .inv .3 .fits)
+sub-can-turn-2 : tie.Need-sub-can-turn-2 Inv-loop μ-loop
+sub-can-turn-2 c = omega (arith, c .before .loop .inv .0, c .before .loop .inv .3 .fits)
 
-is-ready-requires : tie.Need-is-ready-requires Inv-loop μ-loop
-is-ready-requires c κs = search needs
+can-turn-requires : tie.Need-can-turn-requires Inv-loop μ-loop
+can-turn-requires c κs = search needs
 
 sub-turn : tie.Need-sub-turn Inv-loop μ-loop
 sub-turn c = c .before .before .before .loop .inv .3 .within
@@ -110,7 +110,7 @@ returns c =
     let l = c .before .before .before .loop in
     let s = c .before .before .before .before .before .before .before in
     let no = ready-here (l .progress .done) (s .args .ended) (now (s .args .rest)) (l .used) (l .written) (length (l .out))
-    (length (now (s .args .out))) (c .before .is-ready .ensures) (l .inv .0) (c .if1 .left) in
+    (length (now (s .args .out))) (c .before .can-turn .ensures) (l .inv .0) (c .if1 .left) in
     (underway-ends _ _ (s .args .p) _ _ (l .inv .3) no, l .inv .3 .placed)
 
 pub feed-spec : {M : Type 1} → statement M
@@ -120,11 +120,11 @@ feed-spec =
     Inv-loop
     μ-loop
     loop-holds
-    sub-is-ready
-    part-is-ready-start
-    part-is-ready-end
-    sub-is-ready-2
-    is-ready-requires
+    sub-can-turn
+    part-can-turn-start
+    part-can-turn-end
+    sub-can-turn-2
+    can-turn-requires
     sub-turn
     part-turn-start
     part-turn-end

@@ -3,7 +3,7 @@ use native.Mathlib.Omega.{arith}
 use denote.Ref.{now}
 use Rattle.model.specs.Run.{firstField}
 use borrow.Author.Needs.{needs}
-use Rattle.feeding.proofs.First.{first-tag}
+use Rattle.feeding.proofs.First.{tag-first}
 use Rattle.feeding.proofs.Written.{running, sides-few, answer-is, state-is, place-fits, field-placed, field-done, turn-placed}
 use Rattle.feeding.proofs.take.Statement.{statement}
 use Rattle.feeding.proofs.take.Tie as tie
@@ -41,7 +41,7 @@ returns c =
     let a = c .before .before .before .before .before .before .before .before .before .before .before .advance .ensures .0 in
     let p = s .args .p in
     let f = firstField (now (s .args .rest)) in
-    let d = field-done p f (s .pre .3) (answer-is p f a) (state-is p f a) (first-tag (now (s .args .rest)) (c .before .before .before .before .tag-of .ensures)) (c .before .before .before .answer-line .ensures) in
+    let d = field-done p f (s .pre .3) (answer-is p f a) (state-is p f a) (tag-first (now (s .args .rest)) (c .before .before .before .before .tag-of .ensures)) (c .before .before .before .answer-line .ensures) in
     (d, turn-placed d (field-placed p f (s .pre .0) (s .pre .2) (s .pre .1) (omega (arith, s .pre .3, s .pre .4))))
 
 pub take-spec : {M : Type 1} → statement M

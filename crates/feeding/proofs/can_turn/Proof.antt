@@ -1,9 +1,8 @@
--- `feeding::is_ready` meets its contract.
+-- `feeding::can_turn` meets its contract.
 use Rattle.feeding.proofs.First.{ready-done, ready-full, ready-end, ready-whole}
 use borrow.Author.Needs.{needs}
-use native.Mathlib.Omega.{arith}
-use Rattle.feeding.proofs.is_ready.Statement.{statement}
-use Rattle.feeding.proofs.is_ready.Tie as tie
+use Rattle.feeding.proofs.can_turn.Statement.{statement}
+use Rattle.feeding.proofs.can_turn.Tie as tie
 
 returns : tie.Need-returns
 returns c = ready-done _ _ _ _ (c .if1 .taken)
@@ -20,5 +19,5 @@ is-whole-requires c κs = search needs
 returns-4 : tie.Need-returns-4
 returns-4 c = ready-whole _ _ _ _ (c .before .before .before .if1 .left) (c .before .before .if2 .left) (c .before .if3 .left) (c .is-whole .ensures .0)
 
-pub is-ready-spec : {M : Type 1} → statement M
-is-ready-spec = tie.close (tie.spec returns returns-2 returns-3 is-whole-requires returns-4)
+pub can-turn-spec : {M : Type 1} → statement M
+can-turn-spec = tie.close (tie.spec returns returns-2 returns-3 is-whole-requires returns-4)
