@@ -1,4 +1,5 @@
 -- A whole input, from the beginning to its end or its first refusal.
+use mathlib.Core.Path.{_≡_, refl}
 use mathlib.Core.List.{List, [], _∷_}
 use mathlib.Core.Bool.{Bool, true, false, cond, not, _&&_, _||_}
 use Prim.Native.Nat.{ℕ, _+_}
@@ -42,3 +43,14 @@ ranOf short input = cond short (record { accepted = 0; last = unfitAnswer 0 13; 
 -- whether the work slices were used
 unfoldable pub runWorked : Bool → List ℕ → Bool
 runWorked short input = not short && anyWorked begin (fields input)
+
+-- ---- both, by whether there is room
+pub run-short : (input : List ℕ) {short : Bool} → short ≡ true
+    → (record { accepted = 0; last = unfitAnswer 0 13; state = beginning } ≡ ranOf short input) × (runWorked short input ≡ false)
+unfolding ranOf runWorked
+run-short input e = (rw e, rw e)
+
+pub run-whole : (input : List ℕ) {short : Bool} → short ≡ false
+    → (ofInput input ≡ ranOf short input) × (anyWorked begin (fields input) ≡ runWorked short input)
+unfolding ranOf runWorked
+run-whole input e = (rw e, rw e)

@@ -12,8 +12,8 @@ use states::Fielded;
 use states::State;
 use zonotope::Examined;
 
-mod course;
 mod fitness;
+mod following;
 mod taking;
 
 // Document 01's first of the next identifiers (the mark).
@@ -75,7 +75,7 @@ pub fn run(input: &[u8], w: &mut [i64], e: &mut [u8]) -> Ran
         (now (input .entry))) workExponents 0 (now (e .entry)) ⌝ }
 {
     if fitness::no_room(w.len(), e.len()) {
-        return course::unfit();
+        return following::unfit();
     }
-    course::whole(input, w, e)
+    following::whole(input, w, e)
 }

@@ -41,13 +41,7 @@ pub fn unfit(st: State, number: u8) -> Fielded
 }
 
 // The field with which `rest` begins, given to a state that a run can have; the work slices are cleared where they were used.
-pub fn taken(
-    st: State,
-    place: usize,
-    rest: &[u8],
-    w: &mut [i64],
-    e: &mut [u8],
-) -> Fielded
+pub fn taken(st: State, place: usize, rest: &[u8], w: &mut [i64], e: &mut [u8]) -> Fielded
     requires { ⌜ Running st × (workNumbers ≤ length (now w)) × (workExponents ≤ length (now e)) ⌝ }
     ensures { λ r. ⌜ r ≡ taken place st (firstField (now (rest .entry))) ⌝ }
     ensures numbers { λ r. ⌜ now (w .exit) ≡ clearedIf (stepWorked (viewed st) (firstField (now (rest .entry)))) workNumbers (pos 0)

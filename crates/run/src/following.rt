@@ -13,9 +13,9 @@ ghost use Rattle.advance.specs.Running.{Running};
 ghost use Rattle.advance.specs.Advanced.{Used};
 ghost use Rattle.run.specs.Whole.{ofInput, anyWorked};
 ghost use Rattle.run.specs.Course.{started, turned, Followed};
-use crate::taking;
 use crate::Course;
 use crate::Ran;
+use crate::taking;
 use states::Answer;
 use states::Outcome;
 
