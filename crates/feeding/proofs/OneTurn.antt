@@ -177,7 +177,7 @@ pub turned-goes-on : (p : Progress) → Reached p → p .done ≡ false → (end
 turned-goes-on p r on ended rest more last h = go (cut rest) refl
   where
     go : (b : Bool) → cut rest ≡ b
-        → remaining p (rest ++ more) ≡ oneTurn p rest .text ++ remaining (oneTurn p rest .progress) (drop (oneTurn p rest .used) rest ++ more)
+        → (let t = oneTurn p rest in remaining p (rest ++ more) ≡ t .text ++ remaining (t .progress) (drop (t .used) rest ++ more))
     go false e =
         turned-prints p r on (rest ++ more)
         ∙ ap (λ (t : Turns). t .text ++ remaining (t .progress) (drop (t .used) (rest ++ more))) (turned-more p rest more e)

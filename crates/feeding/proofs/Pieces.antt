@@ -19,7 +19,8 @@ use Rattle.states.specs.Recorded.{viewed-record}
 use Rattle.feeding.specs.declared.Progress.{Progress}
 use Rattle.feeding.specs.Fed.{starting, Turns, fed}
 use Rattle.feeding.specs.Reached.{Reached, remaining, turnsLeft}
-use Rattle.feeding.specs.Pieces.{Call, Standing, beforeCalls, called, calls, endCalls, piecesJoined, AsPrinted, WhateverFollows, Begins, Ends}
+use Rattle.feeding.specs.Pieces.{Call, Standing, beforeCalls, called, calls, endCalls, piecesJoined}
+use Rattle.feeding.specs.Pieces.{AsPrinted, WhateverFollows, Begins, Ends}
 use Rattle.feeding.proofs.Turns.{ready-by, done-fed, fed-reached, fed-falls, fed-prints}
 
 -- ---- the start

@@ -15,7 +15,8 @@ use Rattle.text.specs.Lines.{longestLine}
 use Rattle.feeding.specs.declared.Progress.{Progress}
 use Rattle.feeding.specs.Fed.{Turns, noTurn, then, oneTurn, canTurn, manyTurns, fed}
 use Rattle.feeding.specs.Reached.{Reached, remaining, turnsLeft}
-use Rattle.feeding.proofs.OneTurn.{turned-reached, turned-goes-on, turned-falls, turned-last, turned-uses, turned-within, turned-place}
+use Rattle.feeding.proofs.OneTurn.{turned-reached, turned-goes-on, turned-falls, turned-last}
+use Rattle.feeding.proofs.OneTurn.{turned-uses, turned-within, turned-place}
 
 -- ---- what a turn that can be made has
 module _ (ended : Bool) (room : ℕ) (p : Progress) (rest : List ℕ) (e : canTurn (p .done) ended room rest ≡ true) where
@@ -90,7 +91,8 @@ turns-fall n ended room p rest r =
     (λ room p rest later e r h. omega (arith, turned-falls p r (ready-on ended room p rest e) rest)) n room p rest r
 
 -- no more is used than there is, and the next field stands after it
-pub turns-within : (n : ℕ) (ended : Bool) (room : ℕ) (p : Progress) (rest : List ℕ) → Reached p → manyTurns n ended room p rest .used ≤ length rest
+pub turns-within : (n : ℕ) (ended : Bool) (room : ℕ) (p : Progress) (rest : List ℕ) → Reached p
+    → manyTurns n ended room p rest .used ≤ length rest
 turns-within n ended room p rest r =
     by-turns ended (λ room p rest t. t .used ≤ length rest) (λ room p rest. omega arith)
     (λ room p rest later e r h. omega (arith, turned-within p rest, length-drop (oneTurn p rest .used) rest)) n room p rest r
@@ -104,7 +106,8 @@ turns-place n ended room p rest r =
 -- what is printed
 module _ (ended : Bool) (more : List ℕ) (last : ended ≡ true → more ≡ []) where
   pub turns-print : (n room : ℕ) (p : Progress) (rest : List ℕ) → Reached p
-      → (let t = manyTurns n ended room p rest in remaining p (rest ++ more) ≡ t .text ++ remaining (t .progress) (drop (t .used) rest ++ more))
+      → (let t = manyTurns n ended room p rest in
+      remaining p (rest ++ more) ≡ t .text ++ remaining (t .progress) (drop (t .used) rest ++ more))
   turns-print =
       by-turns ended (λ room p rest t. remaining p (rest ++ more) ≡ t .text ++ remaining (t .progress) (drop (t .used) rest ++ more))
       (λ room p rest. refl)
@@ -162,7 +165,8 @@ turns-stops (suc n) ended room p rest r l = by-case (canTurn (p .done) ended roo
         ap (another ended room rest) (turns-go-on n ended room p rest e)
         ∙ sym (another-then ended room rest t (later n ended room p rest))
         ∙ ap (another ended (room - length (t .text)) (drop (t .used) rest)) (done-turns n ended _ _ _ given)
-        ∙ none-then ended (room - length (t .text)) (t .progress) (drop (t .used) rest) (done-idle ended (room - length (t .text)) (t .progress) (drop (t .used) rest) given)
+        ∙ none-then ended (room - length (t .text)) (t .progress) (drop (t .used) rest)
+        (done-idle ended (room - length (t .text)) (t .progress) (drop (t .used) rest) given)
 
 -- ---- all that can be made
 module _ (ended : Bool) (room : ℕ) (p : Progress) (rest : List ℕ) (r : Reached p) where

@@ -37,7 +37,8 @@ pub part-from : (used : ℕ) (rest : List ℕ) → take (length rest - used) (dr
 part-from used rest = take-all (length rest - used) (drop used rest) (omega (arith, length-drop used rest))
 
 pub from-part : {m : ℕ} (p : Progress) (rest : List ℕ) (used : ℕ) {before after : List ℕ} {at : ℕ} {r : Fed}
-    → Done m (oneTurn p (take (length rest - used) (drop used rest))) before after at r → Done m (oneTurn p (drop used rest)) before after at r
+    → Done m (oneTurn p (take (length rest - used) (drop used rest))) before after at r
+    → Done m (oneTurn p (drop used rest)) before after at r
 from-part {m} p rest used {before} {after} {at} {r} d = subst (λ l. Done m (oneTurn p l) before after at r) (part-from used rest) d
 
 -- whether another turn can be made, as the loop asks it
@@ -152,4 +153,4 @@ module _ (ended : Bool) (room : ℕ) (from : Progress) (rest before : List ℕ) 
 
       -- fewer can follow
       pub underway-falls : {after' : List ℕ} {r : Fed} → Done longestLine t after after' written r → turnsLeft (r .progress) < turnsLeft p
-      underway-falls {r = r} d = subst (λ (q : Progress). turnsLeft q < turnsLeft p) (sym (d .progress)) (turned-falls p (u .reached) on left)
+      underway-falls d = subst (λ (q : Progress). turnsLeft q < turnsLeft p) (sym (d .progress)) (turned-falls p (u .reached) on left)

@@ -65,7 +65,8 @@ unfoldable pub manyTurns : ℕ → Bool → ℕ → Progress → List ℕ → Tu
 manyTurns zero ended room p rest = noTurn p
 manyTurns (suc n) ended room p rest =
     let t = oneTurn p rest in
-    cond (canTurn (p .done) ended room rest) (then t (manyTurns n ended (room - length (t .text)) (t .progress) (drop (t .used) rest))) (noTurn p)
+    cond (canTurn (p .done) ended room rest)
+    (then t (manyTurns n ended (room - length (t .text)) (t .progress) (drop (t .used) rest))) (noTurn p)
 
 -- all that can be made; each but the last uses a byte or more
 unfoldable pub fed : Bool → ℕ → Progress → List ℕ → Turns

@@ -109,7 +109,8 @@ module _ (f : Flow) (buffer B P : List ℕ) (a : Along f buffer) (on : f .ended 
   }
 
   read-prints : (more : List ℕ) → (eqb (r .count) 0 ≡ true → more ≡ [])
-      → printed (bytesOf (a .reads ++ (this ∷ [])) ++ more) ≡ handedOver (a .writes) ++ remaining (f .progress) (heldBytes next after ++ more)
+      → printed (bytesOf (a .reads ++ (this ∷ [])) ++ more)
+      ≡ handedOver (a .writes) ++ remaining (f .progress) (heldBytes next after ++ more)
   read-prints more last =
       ap (λ l. printed (l ++ more)) (bytes-more (a .reads) this)
       ∙ ap printed (append-assoc (bytesOf (a .reads)) bytes more)
@@ -122,8 +123,13 @@ module _ (f : Flow) (buffer B P : List ℕ) (a : Along f buffer) (on : f .ended 
     along = record {
       reached = a .reached;
       placed = a .placed;
-      within = omega (arith, length-take-le (f .held) buffer (a .within), length-append (take (f .held) buffer) (B ++ P),
-          length-append B P, filled .within);
+      within = omega (
+        arith,
+        length-take-le (f .held) buffer (a .within),
+        length-append (take (f .held) buffer) (B ++ P),
+        length-append B P,
+        filled .within,
+      );
       reads = a .reads ++ (this ∷ []);
       writes = a .writes;
       input = filled .next ∙ ap (λ i. took i (length B) bytes) (a .input) ∙ sym (took-more noInput (a .reads) this);
@@ -176,7 +182,7 @@ module _ (f g : Flow) (buffer : List ℕ) (a : Along g buffer) (room : ℕ) {out
         ∙ ap₂ _++_ (sym (joined-more (a .writes) (t .text)))
         (ap₂ (λ p l. remaining p (l ++ more)) (sym (d .progress)) (ap (λ n. drop n (heldBytes g buffer)) (sym (d .used)) ∙ sym moved))
 
-    pub turn-along : Along then after
+    turn-along : Along then after
     turn-along = record {
       reached = subst Reached (sym (d .progress)) (fed-reached (g .ended) room (g .progress) (heldBytes g buffer) (a .reached));
       placed = placed;
@@ -190,7 +196,8 @@ module _ (f g : Flow) (buffer : List ℕ) (a : Along g buffer) (room : ℕ) {out
     }
 
     -- fewer turns can follow
-    module _ (refilled : Refilled f g buffer) (on : f .progress .done ≡ false) (large : longestLine ≤ room) (short : length buffer ≤ 131072) where
+    module _ (refilled : Refilled f g buffer) (on : f .progress .done ≡ false) (large : longestLine ≤ room)
+        (short : length buffer ≤ 131072) where
       abbrev p : Progress
       p = g .progress
 
@@ -225,9 +232,12 @@ module _ (f g : Flow) (buffer : List ℕ) (a : Along g buffer) (room : ℕ) {out
           go true e = omega (arith, fewer-turns e, next-place, used-within, refilled .no-less)
           go false e = omega (arith, turns-no-more, next-place, used-within, refilled .more e, place-below)
 
-      pub turn-falls : callsLeft then < callsLeft f
+      turn-falls : callsLeft then < callsLeft f
       turn-falls =
           subst (λ (q : Progress). callsLeft then < turnsLeft q + (270000000 - (q .place + f .held))) (refilled .progress) from-here
+
+      pub turn-done : Along then after × (callsLeft then < callsLeft f)
+      turn-done = (turn-along, turn-falls)
 
 -- ---- the loop
 pub starts : {f : Flow} (buffer : List ℕ) → f ≡ startingFlow → Along f buffer × (false ≡ f .failed || f .progress .done)

@@ -17,7 +17,9 @@ is-whole-requires : tie.Need-is-whole-requires
 is-whole-requires c κs = search needs
 
 returns-4 : tie.Need-returns-4
-returns-4 c = ready-whole _ _ _ _ (c .before .before .before .if1 .left) (c .before .before .if2 .left) (c .before .if3 .left) (c .is-whole .ensures .0)
+returns-4 c =
+    let e = c .before in
+    ready-whole _ _ _ _ (e .before .before .if1 .left) (e .before .if2 .left) (e .if3 .left) (c .is-whole .ensures .0)
 
 pub can-turn-spec : {M : Type 1} → statement M
 can-turn-spec = tie.close (tie.spec returns returns-2 returns-3 is-whole-requires returns-4)

@@ -20,7 +20,8 @@ add-result c = search needs
 returns-2 : tie.Need-returns-2
 returns-2 c =
     let rest = now (c .before .before .before .args .rest) in
-    (header-there rest (c .before .if1 .left) (c .short-at .ensures .0), λ e. omega (arith, leb-false _ (length rest) e, c .short-at .ensures .1))
+    let n = c .short-at .ensures in
+    (header-there rest (c .before .if1 .left) (n .0), λ e. omega (arith, leb-false _ (length rest) e, n .1))
 
 pub is-whole-spec : {M : Type 1} → statement M
 is-whole-spec = tie.close (tie.spec returns short-at-requires add-result returns-2)

@@ -4,7 +4,8 @@ use denote.Ref.{now}
 use Rattle.model.specs.Run.{firstField}
 use borrow.Author.Needs.{needs}
 use Rattle.feeding.proofs.First.{tag-first}
-use Rattle.feeding.proofs.Written.{running, sides-few, answer-is, state-is, place-fits, field-placed, field-done, turn-placed}
+use Rattle.feeding.proofs.Written.{running, sides-few, answer-is, state-is}
+use Rattle.feeding.proofs.Written.{place-fits, field-placed, field-done, turn-placed}
 use Rattle.feeding.proofs.take.Statement.{statement}
 use Rattle.feeding.proofs.take.Tie as tie
 
@@ -18,13 +19,16 @@ tag-of-requires c κs = search needs
 
 answer-line-requires : tie.Need-answer-line-requires
 answer-line-requires c κs =
-    let s = c .before .before .before .before .before .before .before .before .before .before .before .before .before .before in
-    (sides-few (s .args .p) (firstField (now (s .args .rest))) (c .before .before .before .before .before .before .before .advance .ensures .0) (s .pre .0), s .pre .5)
+    let a = c .before .before .before .before .before .before .before in
+    let s = a .before .before .before .before .before .before .before in
+    (sides-few (s .args .p) (firstField (now (s .args .rest))) (a .advance .ensures .0) (s .pre .0), s .pre .5)
 
 add-t21 : tie.Need-add-t21
 add-t21 c =
-    let s = c .before .before .before .before .before .before .before .before .before .before .before .before .before .before .before .before .before .before in
-    omega (arith, s .pre .3, place-fits (s .args .p) (firstField (now (s .args .rest))) (s .pre .0) (s .pre .2) (s .pre .1) (omega (arith, s .pre .3, s .pre .4)))
+    let a = c .before .before .before .before .before .before .before .before .before .before .before in
+    let s = a .before .before .before .before .before .before .before in
+    let few = omega (arith, s .pre .3, s .pre .4) in
+    omega (arith, s .pre .3, place-fits (s .args .p) (firstField (now (s .args .rest))) (s .pre .0) (s .pre .2) (s .pre .1) few)
 
 same-length : tie.Need-same-length
 same-length c = search needs
@@ -37,11 +41,14 @@ same-length-3 c = search needs
 
 returns : tie.Need-returns
 returns c =
-    let s = c .before .before .before .before .before .before .before .before .before .before .before .before .before .before .before .before .before .before in
-    let a = c .before .before .before .before .before .before .before .before .before .before .before .advance .ensures .0 in
+    let line = c .before .before .before in
+    let a = line .before .before .before .before .before .before .before .before in
+    let s = a .before .before .before .before .before .before .before in
     let p = s .args .p in
     let f = firstField (now (s .args .rest)) in
-    let d = field-done p f (s .pre .3) (answer-is p f a) (state-is p f a) (tag-first (now (s .args .rest)) (c .before .before .before .before .tag-of .ensures)) (c .before .before .before .answer-line .ensures) in
+    let e = a .advance .ensures .0 in
+    let tag = tag-first (now (s .args .rest)) (line .before .tag-of .ensures) in
+    let d = field-done p f (s .pre .3) (answer-is p f e) (state-is p f e) tag (line .answer-line .ensures) in
     (d, turn-placed d (field-placed p f (s .pre .0) (s .pre .2) (s .pre .1) (omega (arith, s .pre .3, s .pre .4))))
 
 pub take-spec : {M : Type 1} → statement M

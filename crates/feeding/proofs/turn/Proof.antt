@@ -15,9 +15,11 @@ same-length c = search needs
 
 returns : tie.Need-returns
 returns c =
-    let s = c .before .before .before .before .before .before .before .before in
-    let d = turn-done (s .args .p) (now (s .args .rest)) (turned-closed (s .args .p) (now (s .args .rest)) (c .before .before .before .before .if1 .taken)) (c .before .before .close .ensures) in
-    (d, closed-placed (s .args .p) (c .before .before .close .ensures))
+    let k = c .before .before in
+    let s = k .before .before .before .before .before .before in
+    let p = s .args .p in
+    let rest = now (s .args .rest) in
+    (turn-done p rest (turned-closed p rest (k .before .before .if1 .taken)) (k .close .ensures), closed-placed p (k .close .ensures))
 
 first-length-requires : tie.Need-first-length-requires
 first-length-requires c κs = search needs
@@ -36,9 +38,12 @@ same-length-4 c = search needs
 
 returns-2 : tie.Need-returns-2
 returns-2 c =
-    let s = c .before .before .before .before .before .before .before .before .before .before .before .before .before .before in
-    let t = c .before .before .before .before .before .take .ensures in
-    (turn-done (s .args .p) (now (s .args .rest)) (turned-taken (s .args .p) (now (s .args .rest)) (c .before .before .before .before .before .before .before .before .before .before .if1 .left)) (t .0), t .1)
+    let k = c .before .before .before .before .before in
+    let s = k .before .before .before .before .before .before .before .before .before in
+    let p = s .args .p in
+    let rest = now (s .args .rest) in
+    let t = k .take .ensures in
+    (turn-done p rest (turned-taken p rest (k .before .before .before .before .before .if1 .left)) (t .0), t .1)
 
 pub turn-spec : {M : Type 1} → statement M
 turn-spec =

@@ -37,10 +37,13 @@ loop-less c = search needs
 
 loop-again : tie.Need-loop-again Inv-loop μ-loop
 loop-again c =
-    let l = c .before .before .loop in
-    (omega (arith, l .inv .0), omega (arith, c .before .loop-test .taken), length-set (l .buf) (l .i - c .before .before .before .before .args .from) (getD (l .buf) (l .i) 0) ∙ l .inv .2,
-    shift-goes-on _ _ _ _ (l .inv .3) (omega (arith, l .inv .0)) (omega (arith, c .before .before .before .if1 .left))
-    (omega (arith, l .inv .1, l .inv .2, c .before .loop-test .taken, c .before .before .before .before .pre .1)) (l .inv .2))
+    let l = c .before .before .loop in (
+      omega (arith, l .inv .0),
+      omega (arith, c .before .loop-test .taken),
+      length-set (l .buf) (l .i - c .before .before .before .before .args .from) (getD (l .buf) (l .i) 0) ∙ l .inv .2,
+      shift-goes-on _ _ _ _ (l .inv .3) (omega (arith, l .inv .0)) (omega (arith, c .before .before .before .if1 .left))
+          (omega (arith, l .inv .1, l .inv .2, c .before .loop-test .taken, c .before .before .before .before .pre .1)) (l .inv .2),
+    )
 
 same-length : tie.Need-same-length Inv-loop μ-loop
 same-length c = search needs
