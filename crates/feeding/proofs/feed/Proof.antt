@@ -78,7 +78,19 @@ sub-can-turn-2 : tie.Need-sub-can-turn-2 Inv-loop μ-loop
 sub-can-turn-2 c = omega (arith, c .before .loop .inv .0, c .before .loop .inv .3 .fits)
 
 can-turn-requires : tie.Need-can-turn-requires Inv-loop μ-loop
-can-turn-requires c κs =
+can-turn-requires c κs = search needs
+
+sub-turn : tie.Need-sub-turn Inv-loop μ-loop
+sub-turn c = looped c .loop .inv .3 .within
+
+part-turn-start : tie.Need-part-turn-start Inv-loop μ-loop
+part-turn-start c = omega (arith, looped c .loop .inv .3 .within)
+
+part-turn-end : tie.Need-part-turn-end Inv-loop μ-loop
+part-turn-end c = search needs
+
+turn-requires : tie.Need-turn-requires Inv-loop μ-loop
+turn-requires c κs =
     let t = c .before .before .before .before in
     let l = looped t .loop in
     let s = started t in (
