@@ -3,6 +3,7 @@
 pub mod Law
 use mathlib.Core.Path.{_≡_}
 use mathlib.Core.List.{List}
+use mathlib.Core.Bool.{Bool}
 use Prim.Native.Nat.{ℕ, _+_, _%_, _^_, _≤_}
 use lib.ListN.{length, take}
 use Rattle.console.specs.declared.Input.{Input}
@@ -21,9 +22,9 @@ took i asked bytes = record { seen = (i .seen + length bytes) % 2 ^ 64 }
 pub noOutput : Output
 noOutput = record { sent = 0 }
 
--- after what o stands for, these bytes were handed over
-pub wrote : Output → List ℕ → Output
-wrote o bytes = record { sent = (o .sent + length bytes) % 2 ^ 64 }
+-- after what o stands for, these bytes were handed over, and whether all of them went through
+pub wrote : Output → List ℕ → Bool → Output
+wrote o bytes whole = record { sent = (o .sent + length bytes) % 2 ^ 64 }
 
 -- what a read leaves: as many bytes as the buffer has were asked for, and those at its start read
 pub record FilledFrom (i : Input) (buffer : List ℕ) (r : Filled) : Type 0 where

@@ -27,9 +27,9 @@ use Rattle.feeding.specs.Done.{Done}
 use Rattle.feeding.proofs.Turns.{fed-reached, fed-within, fed-place, fed-no-more, fed-falls, fed-prints, ready-by}
 use Rattle.feeding.proofs.Pieces.{starting-reached, starting-prints}
 use Rattle.motion.specs.declared.Flow.{Flow}
-use Rattle.motion.specs.Streamed.{Read, tookAll, bytesOf, wroteAll, handedOver, EndRead, Streamed}
+use Rattle.motion.specs.Streamed.{Read, tookAll, bytesOf, Write, wroteAll, handedOver, EndRead, WriteFailed, Streamed}
 use Rattle.motion.specs.Along.{startingFlow, heldBytes, Along, Refilled, callsLeft}
-use Rattle.motion.proofs.Traces.{took-more, bytes-more, wrote-more, joined-more}
+use Rattle.motion.proofs.Traces.{took-more, bytes-more, wrote-more, handed-more}
 
 -- ---- the start
 pub flow-begun : {p : Progress} {i : Input} {o : Output} → p ≡ Feeding.starting → i ≡ noInput → o ≡ noOutput
@@ -52,6 +52,7 @@ along-begins buffer = record {
   input = refl;
   output = refl;
   end-read = λ e. absurd (true≢false (sym e));
+  write-failed = λ e. absurd (true≢false (sym e));
   prints = λ more last. sym (starting-prints more);
 }
 
@@ -135,6 +136,7 @@ module _ (f : Flow) (buffer B P : List ℕ) (a : Along f buffer) (on : f .ended 
       input = filled .next ∙ ap (λ i. took i (length B) bytes) (a .input) ∙ sym (took-more noInput (a .reads) this);
       output = a .output;
       end-read = end-met;
+      write-failed = a .write-failed;
       prints = read-prints;
     };
     progress = refl;
@@ -160,26 +162,36 @@ module _ (f g : Flow) (buffer : List ℕ) (a : Along g buffer) (room : ℕ) {out
   pub written-within : r .written ≤ room
   written-within = omega (arith, d .text .ends, d .text .short)
 
-  module _ (o : Output) (sent : o ≡ wrote (g .output) (take (r .written) out')) (failed : Bool) (after : List ℕ)
+  module _ (o : Output) (whole : Bool) (sent : o ≡ wrote (g .output) (take (r .written) out') whole) (after : List ℕ)
       (moved : take (g .held - r .used) after ≡ drop (r .used) (heldBytes g buffer)) (same : length after ≡ length buffer) where
     abbrev then : Flow
     then = record {
       progress = r .progress;
       held = g .held - r .used;
       ended = g .ended;
-      failed = failed;
+      failed = not whole;
       input = g .input;
       output = o;
     }
 
+    abbrev now-written : Write
+    now-written = record { bytes = t .text; whole = whole }
+
+    failed-write : not whole ≡ true → WriteFailed (a .writes ++ (now-written ∷ []))
+    failed-write e = record {
+      before = a .writes;
+      bytes = t .text;
+      last = ap (λ b. a .writes ++ (record { bytes = t .text; whole = b } ∷ [])) (not-true whole e);
+    }
+
     turn-prints : (more : List ℕ) → (g .ended ≡ true → more ≡ [])
         → printed (bytesOf (a .reads) ++ more)
-        ≡ handedOver (a .writes ++ (t .text ∷ [])) ++ remaining (r .progress) (heldBytes then after ++ more)
+        ≡ handedOver (a .writes ++ (now-written ∷ [])) ++ remaining (r .progress) (heldBytes then after ++ more)
     turn-prints more last =
         a .prints more last
         ∙ ap (handedOver (a .writes) ++_) (fed-prints (g .ended) room (g .progress) (heldBytes g buffer) (a .reached) more last)
         ∙ sym (append-assoc (handedOver (a .writes)) (t .text) _)
-        ∙ ap₂ _++_ (sym (joined-more (a .writes) (t .text)))
+        ∙ ap₂ _++_ (sym (handed-more (a .writes) now-written))
         (ap₂ (λ p l. remaining p (l ++ more)) (sym (d .progress)) (ap (λ n. drop n (heldBytes g buffer)) (sym (d .used)) ∙ sym moved))
 
     turn-along : Along then after
@@ -188,10 +200,11 @@ module _ (f g : Flow) (buffer : List ℕ) (a : Along g buffer) (room : ℕ) {out
       placed = placed;
       within = omega (arith, a .within);
       reads = a .reads;
-      writes = a .writes ++ (t .text ∷ []);
+      writes = a .writes ++ (now-written ∷ []);
       input = a .input;
-      output = sent ∙ ap₂ wrote (a .output) text-written ∙ sym (wrote-more noOutput (a .writes) (t .text));
+      output = sent ∙ ap₂ (λ x y. wrote x y whole) (a .output) text-written ∙ sym (wrote-more noOutput (a .writes) now-written);
       end-read = a .end-read;
+      write-failed = failed-write;
       prints = turn-prints;
     }
 
@@ -247,7 +260,7 @@ pub not-done : (over : Bool) (f : Flow) → over ≡ f .failed || f .progress .d
 not-done over f e h = or-right (f .failed) (f .progress .done) (sym e ∙ not-true over h)
 
 -- ---- the end
-nothing-left : (f : Flow) (l : List ℕ) (ws : List (List ℕ)) → f .progress .done ≡ true
+nothing-left : (f : Flow) (l : List ℕ) (ws : List Write) → f .progress .done ≡ true
     → handedOver ws ++ remaining (f .progress) l ≡ handedOver ws
 nothing-left f l ws d =
     ap (λ b. handedOver ws ++ cond b [] (printedFrom (f .progress .place) (viewed (f .progress .state)) l)) d ∙ append-nil (handedOver ws)
@@ -259,6 +272,7 @@ streamed f buffer a over = record {
   input = a .input;
   output = a .output;
   end-read = a .end-read;
+  write-failed = a .write-failed;
   all = λ went more last. sym (a .prints more last ∙ nothing-left f (heldBytes f buffer ++ more) (a .writes) (by-done went));
   begins = λ more last. (remaining (f .progress) (heldBytes f buffer ++ more), a .prints more last);
 }

@@ -10,7 +10,7 @@ use Rattle.console.specs.Trace.{noInput, noOutput}
 use Rattle.feeding.specs.Fed as Feeding
 use Rattle.feeding.specs.Reached.{Reached, Placed, remaining, turnsLeft}
 use Rattle.motion.specs.declared.Flow.{Flow}
-use Rattle.motion.specs.Streamed.{Read, tookAll, bytesOf, wroteAll, handedOver, EndRead}
+use Rattle.motion.specs.Streamed.{Read, tookAll, bytesOf, Write, wroteAll, handedOver, EndRead, WriteFailed}
 
 -- before the first turn
 abbrev pub startingFlow : Flow
@@ -33,10 +33,11 @@ pub record Along (f : Flow) (buffer : List ℕ) : Type 0 where
   pub placed : Placed (f .progress)
   pub within : f .held ≤ length buffer
   pub reads : List Read
-  pub writes : List (List ℕ)
+  pub writes : List Write
   pub input : f .input ≡ tookAll noInput reads
   pub output : f .output ≡ wroteAll noOutput writes
   pub end-read : f .ended ≡ true → EndRead reads
+  pub write-failed : f .failed ≡ true → WriteFailed writes
   -- what was written, and what is still to be printed
   pub prints : (more : List ℕ) → (f .ended ≡ true → more ≡ [])
       → printed (bytesOf reads ++ more) ≡ handedOver writes ++ remaining (f .progress) (heldBytes f buffer ++ more)
