@@ -3,6 +3,7 @@
 pub mod Law
 use mathlib.Core.Path.{_≡_}
 use mathlib.Core.List.{List}
+use mathlib.Core.Bool.{Bool}
 use Prim.Native.Nat.{ℕ, _+_, _%_, _^_, _≤_}
 use lib.ListN.{length, take}
 use Rattle.console.specs.declared.Input.{Input}
@@ -13,19 +14,19 @@ use Rattle.console.specs.declared.Filled.{Filled}
 pub noInput : Input
 noInput = record { seen = 0 }
 
--- after what i stands for, these bytes were read
-pub took : Input → List ℕ → Input
-took i bytes = record { seen = (i .seen + length bytes) % 2 ^ 64 }
+-- after what i stands for, at most so many bytes were asked for, and these were read
+pub took : Input → ℕ → List ℕ → Input
+took i asked bytes = record { seen = (i .seen + length bytes) % 2 ^ 64 }
 
 -- nothing was written
 pub noOutput : Output
 noOutput = record { sent = 0 }
 
--- after what o stands for, these bytes were handed over
-pub wrote : Output → List ℕ → Output
-wrote o bytes = record { sent = (o .sent + length bytes) % 2 ^ 64 }
+-- after what o stands for, these bytes were handed over, and whether all of them went through
+pub wrote : Output → List ℕ → Bool → Output
+wrote o bytes whole = record { sent = (o .sent + length bytes) % 2 ^ 64 }
 
--- what a read leaves: the bytes at the start of the buffer were read next
+-- what a read leaves: as many bytes as the buffer has were asked for, and those at its start read
 pub record FilledFrom (i : Input) (buffer : List ℕ) (r : Filled) : Type 0 where
   pub within : r .count ≤ length buffer
-  pub next : r .input ≡ took i (take (r .count) buffer)
+  pub next : r .input ≡ took i (length buffer) (take (r .count) buffer)

@@ -57,7 +57,7 @@ pub fn fill(i: Input, buf: &mut [u8]) -> Filled
 
 // Hands the bytes over to be written. Where the output is closed or a write fails, some of them may have gone through.
 pub fn emit(o: Output, bytes: &[u8]) -> Emitted
-    ensures { λ r. ⌜ r .output ≡ wrote o (now (bytes .entry)) ⌝ }
+    ensures { λ r. ⌜ r .output ≡ wrote o (now (bytes .entry)) (r .whole) ⌝ }
 {
     let whole = io::write_all(libc::STDOUT_FILENO, bytes);
     let sent = std::num::wrapping_add_u64(o.sent, bytes.len() as u64);

@@ -1,4 +1,4 @@
-// The line of an answer, written into a lent slice. A part of `feed`.
+// The line of an answer, written into a lent slice. A part of `feeding`.
 ghost use mathlib.Core.Path.{_≡_};
 ghost use Prim.Native.Nat.{_+_, _≤_};
 ghost use lib.ListN.{length};

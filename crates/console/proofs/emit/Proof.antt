@@ -11,7 +11,7 @@ wrapping-add-u64-requires : tie.Need-wrapping-add-u64-requires
 wrapping-add-u64-requires c κs = search needs
 
 returns : tie.Need-returns
-returns c = wrote-is _ _ (c .wrapping-add-u64 .ensures)
+returns c = wrote-is _ _ (c .before .write-all .result) (c .wrapping-add-u64 .ensures)
 
 pub emit-spec : {M : Type 1} → statement M
 emit-spec = tie.close (tie.spec write-all-requires wrapping-add-u64-requires returns)

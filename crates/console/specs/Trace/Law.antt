@@ -1,6 +1,7 @@
 -- What the histories are made of: cited by the proofs of this crate and by nothing else.
 use mathlib.Core.Path.{_≡_, refl, ap, _∙_}
 use mathlib.Core.List.{List}
+use mathlib.Core.Bool.{Bool}
 use Prim.Native.Nat.{ℕ, _+_, _%_, _^_, _≤_}
 use lib.ListN.{length, take}
 use Rattle.console.specs.declared.Input.{Input}
@@ -15,9 +16,9 @@ pub no-output : noOutput ≡ record { sent = 0 }
 unfolding noOutput
 no-output = refl
 
-pub wrote-is : (o : Output) (b : List ℕ) {n : ℕ} → n ≡ (o .sent + length b) % 2 ^ 64 → record { sent = n } ≡ wrote o b
+pub wrote-is : (o : Output) (b : List ℕ) (whole : Bool) {n : ℕ} → n ≡ (o .sent + length b) % 2 ^ 64 → record { sent = n } ≡ wrote o b whole
 unfolding wrote
-wrote-is o b e = ap (λ (k : ℕ). record { sent = k }) e
+wrote-is o b whole e = ap (λ (k : ℕ). record { sent = k }) e
 
 -- n bytes at the start of a buffer
 pub filled : (i : Input) (b : List ℕ) (n : ℕ) {k : ℕ} → n ≤ length b → n ≡ length (take n b) → k ≡ (i .seen + n) % 2 ^ 64

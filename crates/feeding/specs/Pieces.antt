@@ -8,8 +8,8 @@ use lib.ListN.{length, drop}
 use Rattle.rational.specs.Sum.{All}
 use Rattle.model.specs.Text.{printed}
 use Rattle.text.specs.Lines.{longestLine}
-use Rattle.feed.specs.declared.Progress.{Progress}
-use Rattle.feed.specs.Fed.{starting, fed}
+use Rattle.feeding.specs.declared.Progress.{Progress}
+use Rattle.feeding.specs.Fed.{starting, fed}
 
 -- a call: what was read since the last one, perhaps nothing, and how long the lent slice is
 pub record Call : Type 0 where
@@ -22,8 +22,8 @@ pub record Standing : Type 0 where
   pub rest : List ℕ
   pub text : List ℕ
 
-abbrev pub begun : Standing
-begun = record { progress = starting; rest = []; text = [] }
+abbrev pub beforeCalls : Standing
+beforeCalls = record { progress = starting; rest = []; text = [] }
 
 -- one call more: it is given what is left and the piece
 abbrev pub called : Bool → Call → Standing → Standing
@@ -43,25 +43,25 @@ endCalls [] s = s
 endCalls (room ∷ rooms) s = endCalls rooms (called true (record { piece = []; room = room }) s)
 
 -- the pieces joined
-unfoldable pub joined : List Call → List ℕ
-joined [] = []
-joined (c ∷ cs) = c .piece ++ joined cs
+unfoldable pub piecesJoined : List Call → List ℕ
+piecesJoined [] = []
+piecesJoined (c ∷ cs) = c .piece ++ piecesJoined cs
 
 -- Once the last line is given, what was handed over is what is printed for the pieces joined.
 abbrev pub AsPrinted : Type 0
 AsPrinted = (cs : List Call) (rooms : List ℕ)
-    → (let s = endCalls rooms (calls cs begun) in s .progress .done ≡ true → s .text ≡ printed (joined cs))
+    → (let s = endCalls rooms (calls cs beforeCalls) in s .progress .done ≡ true → s .text ≡ printed (piecesJoined cs))
 
 -- Where a refusal gave it, that holds whatever would still come.
 abbrev pub WhateverFollows : Type 0
 WhateverFollows = (cs : List Call) (more : List ℕ)
-    → (let s = calls cs begun in s .progress .done ≡ true → s .text ≡ printed (joined cs ++ more))
+    → (let s = calls cs beforeCalls in s .progress .done ≡ true → s .text ≡ printed (piecesJoined cs ++ more))
 
 -- Before, it is how the output begins, whatever follows.
 abbrev pub Begins : Type 0
-Begins = (cs : List Call) (more : List ℕ) → (later : List ℕ) × (printed (joined cs ++ more) ≡ calls cs begun .text ++ later)
+Begins = (cs : List Call) (more : List ℕ) → (later : List ℕ) × (printed (piecesJoined cs ++ more) ≡ calls cs beforeCalls .text ++ later)
 
 -- The last line comes: after the end, 4,098 calls with room for a longest line are enough.
 abbrev pub Ends : Type 0
 Ends = (cs : List Call) (rooms : List ℕ) → All (longestLine ≤_) rooms → 4098 ≤ length rooms
-    → endCalls rooms (calls cs begun) .progress .done ≡ true
+    → endCalls rooms (calls cs beforeCalls) .progress .done ≡ true

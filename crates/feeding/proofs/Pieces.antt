@@ -1,11 +1,10 @@
 -- However an input is cut into pieces, what the calls hand over is what is printed for it, and the last line comes.
 -- The statements are in specs/Pieces.antt.
-use mathlib.Core.Path.{_≡_, refl, sym, ap, ap₂, _∙_, subst}
+use mathlib.Core.Path.{_≡_, refl, sym, ap, _∙_, subst}
 use mathlib.Core.List.{List, [], _∷_, _++_, append-assoc, append-nil}
-use mathlib.Core.Bool.{Bool, true, false, not, cond, _&&_, true≢false}
+use mathlib.Core.Bool.{Bool, true, false, cond, true≢false}
 use Prim.Native.Nat.{ℕ, suc, _-_, _≤_}
 use native.Mathlib.Omega.{arith}
-use borrow.Author.Tests.{le-ltb}
 use lib.ListN.{length, drop}
 use Rattle.rational.specs.Sum as Sum
 use Rattle.rational.specs.Sum.{All}
@@ -17,11 +16,12 @@ use Rattle.model.proofs.Cutting.{from-start}
 use Rattle.text.specs.Lines.{longestLine}
 use Rattle.states.specs.State.{viewed, beginning}
 use Rattle.states.specs.Recorded.{viewed-record}
-use Rattle.feed.specs.declared.Progress.{Progress}
-use Rattle.feed.specs.Fed.{starting, Turns, ready, fed}
-use Rattle.feed.specs.Reached.{Reached, remaining, turnsLeft}
-use Rattle.feed.specs.Pieces.{Call, Standing, begun, called, calls, endCalls, joined, AsPrinted, WhateverFollows, Begins, Ends}
-use Rattle.feed.proofs.Turns.{done-fed, fed-reached, fed-falls, fed-prints}
+use Rattle.feeding.specs.declared.Progress.{Progress}
+use Rattle.feeding.specs.Fed.{starting, Turns, fed}
+use Rattle.feeding.specs.Reached.{Reached, remaining, turnsLeft}
+use Rattle.feeding.specs.Pieces.{Call, Standing, beforeCalls, called, calls, endCalls, piecesJoined}
+use Rattle.feeding.specs.Pieces.{AsPrinted, WhateverFollows, Begins, Ends}
+use Rattle.feeding.proofs.Turns.{ready-by, done-fed, fed-reached, fed-falls, fed-prints}
 
 -- ---- the start
 begin-viewed : viewed beginning ≡ begin
@@ -57,12 +57,12 @@ calls-reached [] s r = r
 calls-reached (c ∷ cs) s r = calls-reached cs (called false c s) (called-reached false c s r)
 
 calls-print : (cs : List Call) (s : Standing) → Reached (s .progress) → (more : List ℕ)
-    → output s (joined cs ++ more) ≡ output (calls cs s) more
-unfolding calls joined
+    → output s (piecesJoined cs ++ more) ≡ output (calls cs s) more
+unfolding calls piecesJoined
 calls-print [] s r more = refl
 calls-print (c ∷ cs) s r more =
-    ap (output s) (append-assoc (c .piece) (joined cs) more)
-    ∙ called-prints false c s r (joined cs ++ more) (λ e. absurd (true≢false (sym e)))
+    ap (output s) (append-assoc (c .piece) (piecesJoined cs) more)
+    ∙ called-prints false c s r (piecesJoined cs ++ more) (λ e. absurd (true≢false (sym e)))
     ∙ calls-print cs (called false c s) (called-reached false c s r) more
 
 end-calls-print : (rooms : List ℕ) (s : Standing) → Reached (s .progress) → output s [] ≡ output (endCalls rooms s) []
@@ -73,8 +73,8 @@ end-calls-print (room ∷ rooms) s r =
     called-prints true c s r [] (λ e. refl) ∙ end-calls-print rooms (called true c s) (called-reached true c s r)
 
 -- all that calls from the start hand over, and what is still to be printed
-from-begun : (cs : List Call) (more : List ℕ) → printed (joined cs ++ more) ≡ output (calls cs begun) more
-from-begun cs more = sym (starting-prints (joined cs ++ more)) ∙ calls-print cs begun starting-reached more
+from-begun : (cs : List Call) (more : List ℕ) → printed (piecesJoined cs ++ more) ≡ output (calls cs beforeCalls) more
+from-begun cs more = sym (starting-prints (piecesJoined cs ++ more)) ∙ calls-print cs beforeCalls starting-reached more
 
 given-all : (s : Standing) (more : List ℕ) → s .progress .done ≡ true → output s more ≡ s .text
 given-all s more d =
@@ -84,23 +84,19 @@ given-all s more d =
 -- Once the last line is given, what was handed over is what is printed for the pieces joined.
 pub as-printed : AsPrinted
 as-printed cs rooms d =
-    sym (ap printed (sym (append-nil (joined cs))) ∙ from-begun cs []
-    ∙ end-calls-print rooms (calls cs begun) (calls-reached cs begun starting-reached)
-    ∙ given-all (endCalls rooms (calls cs begun)) [] d)
+    sym (ap printed (sym (append-nil (piecesJoined cs))) ∙ from-begun cs []
+    ∙ end-calls-print rooms (calls cs beforeCalls) (calls-reached cs beforeCalls starting-reached)
+    ∙ given-all (endCalls rooms (calls cs beforeCalls)) [] d)
 
 -- Where a refusal gave it, that holds whatever would still come.
 pub whatever-follows : WhateverFollows
-whatever-follows cs more d = sym (from-begun cs more ∙ given-all (calls cs begun) more d)
+whatever-follows cs more d = sym (from-begun cs more ∙ given-all (calls cs beforeCalls) more d)
 
 -- Before, it is how the output begins, whatever follows.
 pub begins : Begins
-begins cs more = (remaining (calls cs begun .progress) (calls cs begun .rest ++ more), from-begun cs more)
+begins cs more = (remaining (calls cs beforeCalls .progress) (calls cs beforeCalls .rest ++ more), from-begun cs more)
 
 -- ---- the last line comes
-able : (room : ℕ) (p : Progress) (rest : List ℕ) → p .done ≡ false → longestLine ≤ room → ready true room p rest ≡ true
-unfolding ready
-able room p rest d h = ap₂ (λ x y. not x && (true && not y)) d (le-ltb room longestLine h)
-
 -- a call after the end leaves fewer turns, or the last line was given before
 fewer : (room : ℕ) (s : Standing) → Reached (s .progress) → longestLine ≤ room → (n : ℕ) → turnsLeft (s .progress) ≤ suc n
     → turnsLeft (called true (record { piece = []; room = room }) s .progress) ≤ n
@@ -111,7 +107,7 @@ fewer room s r l n h = go (s .progress .done) refl
         subst (λ (t : Turns). turnsLeft (t .progress) ≤ n) (sym (done-fed true room (s .progress) (s .rest ++ []) d))
         (subst (λ b. cond b 0 (4098 - s .progress .state .count) ≤ n) (sym d) (omega arith))
     go false d =
-        omega (arith, fed-falls true room (s .progress) (s .rest ++ []) r (able room (s .progress) (s .rest ++ []) d l))
+        omega (arith, fed-falls true room (s .progress) (s .rest ++ []) r (ready-by true room (s .progress) (s .rest ++ []) d refl l))
 
 -- where no turn can follow, it was given
 none-left : (p : Progress) → Reached p → turnsLeft p ≤ 0 → p .done ≡ true
@@ -134,8 +130,8 @@ ends-by (room ∷ rooms) s r (Sum.more l a) h =
 -- The last line comes: after the end, 4,098 calls with room for a longest line are enough.
 pub ends : Ends
 ends cs rooms a h =
-    ends-by rooms (calls cs begun) (calls-reached cs begun starting-reached) a
-    (at-most (calls cs begun .progress .done) (calls cs begun .progress .state .count) (length rooms) h)
+    ends-by rooms (calls cs beforeCalls) (calls-reached cs beforeCalls starting-reached) a
+    (at-most (calls cs beforeCalls .progress .done) (calls cs beforeCalls .progress .state .count) (length rooms) h)
   where
     at-most : (b : Bool) (count n : ℕ) → 4098 ≤ n → cond b 0 (4098 - count) ≤ n
     at-most true count n h = omega arith

@@ -2,11 +2,11 @@
 use mathlib.Core.Path.{_≡_, refl, sym, ap, ap₂, _∙_, subst}
 use mathlib.Core.List.{List, [], _∷_, _++_, append-nil}
 use mathlib.Core.Bool.{Bool, true, false, not, cond, _&&_, _||_, true≢false}
-use Prim.Native.Nat.{ℕ, suc, _+_, _-_, _<_}
+use Prim.Native.Nat.{ℕ, suc, _+_, _-_, _≤_, _<_}
 use native.Mathlib.Omega.{arith}
 use borrow.Author.Tests.{eqb-true, eqb-false, eq-eqb, ne-eqb, not-true, not-false}
 use lib.Dec.{eqb}
-use lib.ListN.{length, drop, length-append}
+use lib.ListN.{length, drop, length-append, length-take}
 use lib.Seq.{take-nil}
 use Rattle.model.specs.Run as Model
 use Rattle.model.specs.Run.{tag, cut, after, answer, fieldLength, firstField}
@@ -19,10 +19,10 @@ use Rattle.model.proofs.Cutting.{whole-header, some-bytes, first-kept, rest-kep
 use Rattle.states.specs.State.{viewed, left}
 use Rattle.states.specs.Taken.{taken}
 use Rattle.printing.specs.Brief.{sound-line}
-use Rattle.feed.specs.declared.Progress.{Progress}
-use Rattle.feed.specs.Fed.{Turns, closed, fieldTaken, between, turned}
-use Rattle.feed.specs.Reached.{Reached, remaining, turnsLeft}
-use Rattle.feed.proofs.Left.{viewed-left, left-packed}
+use Rattle.feeding.specs.declared.Progress.{Progress}
+use Rattle.feeding.specs.Fed.{Turns, closed, fieldTaken, between, oneTurn}
+use Rattle.feeding.specs.Reached.{Reached, remaining, turnsLeft}
+use Rattle.feeding.proofs.Left.{viewed-left, left-packed}
 
 -- a field that isn't whole is taken only after the end
 by-end : (ended cut : Bool) → ended || not cut ≡ true → cut ≡ true → ended ≡ true
@@ -53,8 +53,8 @@ module _ (p : Progress) (r : Reached p) where
     going = λ e. e;
   }
 
-  pub turned-reached : (rest : List ℕ) → Reached (turned p rest .progress)
-  unfolding turned
+  pub turned-reached : (rest : List ℕ) → Reached (oneTurn p rest .progress)
+  unfolding oneTurn
   turned-reached rest = go (between p rest)
     where
       go : (b : Bool) → Reached (cond b (closed p) (fieldTaken p (firstField rest)) .progress)
@@ -103,8 +103,8 @@ module _ (p : Progress) (r : Reached p) where
         ∙ ap₂ _++_ (sym (taken-line f)) (sym (taken-rest f (drop (length f) rest)))
 
     pub turned-prints : (rest : List ℕ)
-        → (let t = turned p rest in remaining p rest ≡ t .text ++ remaining (t .progress) (drop (t .used) rest))
-    unfolding turned
+        → (let t = oneTurn p rest in remaining p rest ≡ t .text ++ remaining (t .progress) (drop (t .used) rest))
+    unfolding oneTurn
     turned-prints rest = go (between p rest) refl
       where
         go : (b : Bool) → between p rest ≡ b → (let t = cond b (closed p) (fieldTaken p (firstField rest)) in
@@ -126,8 +126,8 @@ module _ (p : Progress) (r : Reached p) where
     unfolding taken left viewed
     taken-falls f = let v = after (viewed (p .state)) f in falls-by (v .over) (v .count) (goes-on (viewed (p .state)) f)
 
-    pub turned-falls : (rest : List ℕ) → turnsLeft (turned p rest .progress) < turnsLeft p
-    unfolding turned
+    pub turned-falls : (rest : List ℕ) → turnsLeft (oneTurn p rest .progress) < turnsLeft p
+    unfolding oneTurn
     turned-falls rest = go (between p rest)
       where
         go : (b : Bool) → turnsLeft (cond b (closed p) (fieldTaken p (firstField rest)) .progress) < turnsLeft p
@@ -141,8 +141,8 @@ module _ (p : Progress) (r : Reached p) where
         subst (λ (f : List ℕ). after (viewed (p .state)) f .over ≡ true) (sym (take-nil {A = ℕ} (fieldLength [])))
         (empty-refused (viewed (p .state)) (r .going on) z)
 
-    pub turned-last : (rest : List ℕ) → length rest ≡ 0 → turned p rest .progress .done ≡ true
-    unfolding turned
+    pub turned-last : (rest : List ℕ) → length rest ≡ 0 → oneTurn p rest .progress .done ≡ true
+    unfolding oneTurn
     turned-last [] z = go (between p []) refl
       where
         go : (b : Bool) → between p [] ≡ b → cond b (closed p) (fieldTaken p (firstField [])) .progress .done ≡ true
@@ -154,41 +154,59 @@ module _ (p : Progress) (r : Reached p) where
 not-empty : (p : Progress) (rest : List ℕ) → 0 < length rest → between p rest ≡ false
 not-empty p rest h = ap (_&& not (eqb (p .state .count) 0)) (ne-eqb (length rest) 0 (λ e. omega arith))
 
-pub turned-field : (p : Progress) (rest : List ℕ) → 0 < length rest → turned p rest ≡ fieldTaken p (firstField rest)
-unfolding turned
+pub turned-field : (p : Progress) (rest : List ℕ) → 0 < length rest → oneTurn p rest ≡ fieldTaken p (firstField rest)
+unfolding oneTurn
 turned-field p rest h = ap (λ b. cond b (closed p) (fieldTaken p (firstField rest))) (not-empty p rest h)
 
 module _ (p : Progress) (rest more : List ℕ) (e : cut rest ≡ false) where
-  whole-turn : turned p rest ≡ fieldTaken p (firstField rest)
+  whole-turn : oneTurn p rest ≡ fieldTaken p (firstField rest)
   whole-turn = turned-field p rest (omega (arith, whole-header rest e))
 
-  turned-more : turned p (rest ++ more) ≡ turned p rest
+  turned-more : oneTurn p (rest ++ more) ≡ oneTurn p rest
   turned-more =
       turned-field p (rest ++ more) (omega (arith, whole-header rest e, length-append rest more))
       ∙ ap (fieldTaken p) (first-kept rest more e) ∙ sym whole-turn
 
-  rest-more : drop (turned p rest .used) (rest ++ more) ≡ drop (turned p rest .used) rest ++ more
+  rest-more : drop (oneTurn p rest .used) (rest ++ more) ≡ drop (oneTurn p rest .used) rest ++ more
   rest-more = subst (λ (t : Turns). drop (t .used) (rest ++ more) ≡ drop (t .used) rest ++ more) (sym whole-turn) (rest-kept rest more e)
 
 -- A turn's text, and what is still to be printed after it, are what was to be printed, whatever follows; nothing does after the end.
 pub turned-goes-on : (p : Progress) → Reached p → p .done ≡ false → (ended : Bool) (rest more : List ℕ) → (ended ≡ true → more ≡ [])
     → ended || not (cut rest) ≡ true
-    → (let t = turned p rest in remaining p (rest ++ more) ≡ t .text ++ remaining (t .progress) (drop (t .used) rest ++ more))
+    → (let t = oneTurn p rest in remaining p (rest ++ more) ≡ t .text ++ remaining (t .progress) (drop (t .used) rest ++ more))
 turned-goes-on p r on ended rest more last h = go (cut rest) refl
   where
     go : (b : Bool) → cut rest ≡ b
-        → remaining p (rest ++ more) ≡ turned p rest .text ++ remaining (turned p rest .progress) (drop (turned p rest .used) rest ++ more)
+        → (let t = oneTurn p rest in remaining p (rest ++ more) ≡ t .text ++ remaining (t .progress) (drop (t .used) rest ++ more))
     go false e =
         turned-prints p r on (rest ++ more)
         ∙ ap (λ (t : Turns). t .text ++ remaining (t .progress) (drop (t .used) (rest ++ more))) (turned-more p rest more e)
-        ∙ ap (λ l. turned p rest .text ++ remaining (turned p rest .progress) l) (rest-more p rest more e)
+        ∙ ap (λ l. oneTurn p rest .text ++ remaining (oneTurn p rest .progress) l) (rest-more p rest more e)
     go true e =
-        let t = turned p rest in
+        let t = oneTurn p rest in
         subst (λ m. remaining p (rest ++ m) ≡ t .text ++ remaining (t .progress) (drop (t .used) rest ++ m))
         (sym (last (by-end ended (cut rest) h e)))
         (ap (remaining p) (append-nil rest) ∙ turned-prints p r on rest
-        ∙ ap (λ l. turned p rest .text ++ remaining (turned p rest .progress) l) (sym (append-nil (drop (turned p rest .used) rest))))
+        ∙ ap (λ l. oneTurn p rest .text ++ remaining (oneTurn p rest .progress) l) (sym (append-nil (drop (oneTurn p rest .used) rest))))
 
 -- ---- every turn but the last uses a byte or more
-pub turned-uses : (p : Progress) (rest : List ℕ) → 0 < length rest → 0 < turned p rest .used
+pub turned-uses : (p : Progress) (rest : List ℕ) → 0 < length rest → 0 < oneTurn p rest .used
 turned-uses p rest h = subst (λ (t : Turns). 0 < t .used) (sym (turned-field p rest h)) (some-bytes rest h)
+
+-- ---- what a turn uses
+by-turn : (P : Turns → Type 0) (p : Progress) (rest : List ℕ) → P (closed p) → P (fieldTaken p (firstField rest)) → P (oneTurn p rest)
+unfolding oneTurn
+by-turn P p rest c t = go (between p rest)
+  where
+    go : (b : Bool) → P (cond b (closed p) (fieldTaken p (firstField rest)))
+    go true = c
+    go false = t
+
+-- no more than there is
+pub turned-within : (p : Progress) (rest : List ℕ) → oneTurn p rest .used ≤ length rest
+turned-within p rest =
+    by-turn (λ t. t .used ≤ length rest) p rest (omega arith) (omega (arith, length-take (fieldLength rest) rest))
+
+-- the next field stands after it
+pub turned-place : (p : Progress) (rest : List ℕ) → oneTurn p rest .progress .place ≡ p .place + oneTurn p rest .used
+turned-place p rest = by-turn (λ t. t .progress .place ≡ p .place + t .used) p rest (omega arith) refl

@@ -2,13 +2,13 @@
 use mathlib.Core.Path.{_≡_}
 use mathlib.Core.List.{List, []}
 use mathlib.Core.Bool.{false, cond}
-use Prim.Native.Nat.{ℕ, _+_, _-_, _<_}
+use Prim.Native.Nat.{ℕ, _+_, _-_, _*_, _<_, _≤_}
 use Rattle.model.specs.Limits.{lastField}
 use Rattle.model.specs.Rest.{printedFrom}
 use Rattle.model.proofs.Sound.{Sound}
 use Rattle.zonotope.specs.Record.{view, pack}
 use Rattle.states.specs.State.{viewed}
-use Rattle.feed.specs.declared.Progress.{Progress}
+use Rattle.feeding.specs.declared.Progress.{Progress}
 
 -- a progress that calls can lead to
 pub record Reached (p : Progress) : Type 0 where
@@ -18,6 +18,14 @@ pub record Reached (p : Progress) : Type 0 where
   pub packed : 0 < p .state .count → pack (view (p .state .set)) ≡ p .state .set
   -- after a refusal nothing follows
   pub going : p .done ≡ false → p .state .over ≡ false
+
+-- a header and the longest body
+abbrev pub longestField : ℕ
+longestField = 65538
+
+-- the place of the next field: the fields before it were accepted
+abbrev pub Placed : Progress → Type 0
+Placed p = p .done ≡ false → p .place ≤ longestField * p .state .count
 
 -- what is still to be printed where this much of the input is left
 abbrev pub remaining : Progress → List ℕ → List ℕ

@@ -10,7 +10,7 @@ use Rattle.text.specs.Lines.{longestLine}
 use Rattle.states.specs.State.{beginning}
 use Rattle.states.specs.Taken.{taken}
 use Rattle.printing.specs.Line.{answerLine}
-use Rattle.feed.specs.declared.Progress.{Progress}
+use Rattle.feeding.specs.declared.Progress.{Progress}
 
 -- before the first field
 abbrev pub starting : Progress
@@ -52,21 +52,22 @@ abbrev pub between : Progress → List ℕ → Bool
 between p rest = eqb (length rest) 0 && not (eqb (p .state .count) 0)
 
 -- what a turn comes to where this is left of what was read
-unfoldable pub turned : Progress → List ℕ → Turns
-turned p rest = cond (between p rest) (closed p) (fieldTaken p (firstField rest))
+unfoldable pub oneTurn : Progress → List ℕ → Turns
+oneTurn p rest = cond (between p rest) (closed p) (fieldTaken p (firstField rest))
 
 -- ---- turns
 -- whether one can be made: the last line isn't given, the next field is whole or the input has ended, and a longest line has room
-unfoldable pub ready : Bool → ℕ → Progress → List ℕ → Bool
-ready ended room p rest = not (p .done) && ((ended || not (cut rest)) && not (ltb room longestLine))
+unfoldable pub canTurn : Bool → Bool → ℕ → List ℕ → Bool
+canTurn done ended room rest = not done && ((ended || not (cut rest)) && not (ltb room longestLine))
 
 -- one after the other, at most n
-unfoldable pub turns : ℕ → Bool → ℕ → Progress → List ℕ → Turns
-turns zero ended room p rest = noTurn p
-turns (suc n) ended room p rest =
-    let t = turned p rest in
-    cond (ready ended room p rest) (then t (turns n ended (room - length (t .text)) (t .progress) (drop (t .used) rest))) (noTurn p)
+unfoldable pub manyTurns : ℕ → Bool → ℕ → Progress → List ℕ → Turns
+manyTurns zero ended room p rest = noTurn p
+manyTurns (suc n) ended room p rest =
+    let t = oneTurn p rest in
+    cond (canTurn (p .done) ended room rest)
+    (then t (manyTurns n ended (room - length (t .text)) (t .progress) (drop (t .used) rest))) (noTurn p)
 
 -- all that can be made; each but the last uses a byte or more
 unfoldable pub fed : Bool → ℕ → Progress → List ℕ → Turns
-fed ended room p rest = turns (suc (length rest)) ended room p rest
+fed ended room p rest = manyTurns (suc (length rest)) ended room p rest

@@ -1,0 +1,285 @@
+-- A turn of the program keeps what it knows, and fewer can follow.
+use mathlib.Core.Path.{_≡_, refl, sym, ap, ap₂, _∙_, subst}
+use mathlib.Core.Bool.{Bool, true, false, not, cond, _||_, true≢false}
+use mathlib.Core.List.{List, [], _∷_, _++_, append-assoc, append-nil}
+use Prim.Native.Nat.{ℕ, _+_, _-_, _≤_, _<_}
+use native.Mathlib.Omega.{arith}
+use borrow.Author.Tests.{eqb-true, eqb-false, not-true}
+use Rattle.whole.specs.Tests.{or-left, or-right}
+use lib.Dec.{eqb}
+use lib.ListN.{length, take, drop, length-take, length-drop, length-append}
+use lib.Seq.{length-take-le, take-append-add, take-append-le}
+use Rattle.model.specs.Run.{cut}
+use Rattle.model.specs.Text.{printed}
+use Rattle.model.specs.Rest.{printedFrom}
+use Rattle.text.specs.Lines.{longestLine}
+use Rattle.states.specs.State.{viewed}
+use Rattle.console.specs.declared.Input.{Input}
+use Rattle.console.specs.declared.Filled.{Filled}
+use Rattle.console.specs.declared.Output.{Output}
+use Rattle.console.specs.Trace.{noInput, noOutput, took, wrote, FilledFrom}
+use Rattle.feeding.specs.declared.Progress.{Progress}
+use Rattle.feeding.specs.declared.Fed.{Fed}
+use Rattle.feeding.specs.Fed as Feeding
+use Rattle.feeding.specs.Fed.{Turns, fed}
+use Rattle.feeding.specs.Reached.{Reached, Placed, remaining, turnsLeft}
+use Rattle.feeding.specs.Done.{Done}
+use Rattle.feeding.proofs.Turns.{fed-reached, fed-within, fed-place, fed-no-more, fed-falls, fed-prints, ready-by}
+use Rattle.feeding.proofs.Pieces.{starting-reached, starting-prints}
+use Rattle.motion.specs.declared.Flow.{Flow}
+use Rattle.motion.specs.Streamed.{Read, tookAll, bytesOf, Write, wroteAll, handedOver, EndRead, WriteFailed, Streamed}
+use Rattle.motion.specs.Along.{startingFlow, heldBytes, Along, Refilled, callsLeft}
+use Rattle.motion.proofs.Traces.{took-more, bytes-more, wrote-more, handed-more}
+
+-- ---- the start
+pub flow-begun : {p : Progress} {i : Input} {o : Output} → p ≡ Feeding.starting → i ≡ noInput → o ≡ noOutput
+    → record { progress = p; held = 0; ended = false; failed = false; input = i; output = o } ≡ startingFlow
+flow-begun e g h = ap₃ e g h
+  where
+    ap₃ : {p q : Progress} {i j : Input} {o u : Output} → p ≡ q → i ≡ j → o ≡ u
+        → _≡_ {A = Flow} (record { progress = p; held = 0; ended = false; failed = false; input = i; output = o })
+        (record { progress = q; held = 0; ended = false; failed = false; input = j; output = u })
+    ap₃ e g h = rw (e, g, h)
+
+pub along-begins : (buffer : List ℕ) → Along startingFlow buffer
+unfolding tookAll wroteAll bytesOf handedOver
+along-begins buffer = record {
+  reached = starting-reached;
+  placed = λ e. omega arith;
+  within = omega arith;
+  reads = [];
+  writes = [];
+  input = refl;
+  output = refl;
+  end-read = λ e. absurd (true≢false (sym e));
+  write-failed = λ e. absurd (true≢false (sym e));
+  prints = λ more last. sym (starting-prints more);
+}
+
+-- ---- reading on
+pub no-read : (f : Flow) (buffer : List ℕ) → Along f buffer → {b : Bool} → b ≡ not (cut (heldBytes f buffer)) → f .ended || b ≡ true
+    → Refilled f f buffer
+no-read f buffer a e h = record {
+  along = a;
+  progress = refl;
+  no-less = omega arith;
+  more = λ n. absurd (true≢false (sym h ∙ ap (f .ended ||_) e ∙ n));
+}
+
+-- where no whole field is held there is room to read
+pub room-left : (held : ℕ) (buffer B : List ℕ) → held ≤ length buffer → length buffer ≡ 131072 → length (take held buffer) < 65538
+    → length B ≡ length (take (length buffer - held) (drop held buffer)) → 0 < length B
+room-left held buffer B h e l k =
+    omega (arith, length-take-le held buffer h, length-take (length buffer - held) (drop held buffer), length-drop held buffer)
+
+-- B was filled after what is held, and P follows it
+module _ (f : Flow) (buffer B P : List ℕ) (a : Along f buffer) (on : f .ended ≡ false) (r : Filled) (filled : FilledFrom (f .input) B r)
+    (some : 0 < length B) where
+  abbrev bytes : List ℕ
+  bytes = take (r .count) B
+
+  abbrev this : Read
+  this = record { asked = length B; bytes = bytes }
+
+  abbrev next : Flow
+  next = record {
+    progress = f .progress;
+    held = f .held + r .count;
+    ended = eqb (r .count) 0;
+    failed = f .failed;
+    input = r .input;
+    output = f .output;
+  }
+
+  abbrev after : List ℕ
+  after = take (f .held) buffer ++ (B ++ P)
+
+  rest-more : heldBytes next after ≡ heldBytes f buffer ++ bytes
+  rest-more =
+      let H = take (f .held) buffer in
+      let n = length-take-le (f .held) buffer (a .within) in
+      ap (λ k. take (k + r .count) (H ++ (B ++ P))) (sym n) ∙ take-append-add H (B ++ P) (r .count)
+      ∙ ap (H ++_) (take-append-le (r .count) B P (filled .within))
+
+  end-met : eqb (r .count) 0 ≡ true → EndRead (a .reads ++ (this ∷ []))
+  end-met e = record {
+    before = a .reads;
+    asked = length B;
+    some = some;
+    last = ap (λ (l : List ℕ). a .reads ++ (record { asked = length B; bytes = l } ∷ [])) (ap (λ n. take n B) (eqb-true (r .count) 0 e));
+  }
+
+  read-prints : (more : List ℕ) → (eqb (r .count) 0 ≡ true → more ≡ [])
+      → printed (bytesOf (a .reads ++ (this ∷ [])) ++ more)
+      ≡ handedOver (a .writes) ++ remaining (f .progress) (heldBytes next after ++ more)
+  read-prints more last =
+      ap (λ l. printed (l ++ more)) (bytes-more (a .reads) this)
+      ∙ ap printed (append-assoc (bytesOf (a .reads)) bytes more)
+      ∙ a .prints (bytes ++ more) (λ e. absurd (true≢false (sym e ∙ on)))
+      ∙ ap (λ l. handedOver (a .writes) ++ remaining (f .progress) l)
+      (sym (append-assoc (heldBytes f buffer) bytes more) ∙ ap (_++ more) (sym rest-more))
+
+  pub one-read : Refilled f next after
+  one-read = record {
+    along = record {
+      reached = a .reached;
+      placed = a .placed;
+      within = omega (
+        arith,
+        length-take-le (f .held) buffer (a .within),
+        length-append (take (f .held) buffer) (B ++ P),
+        length-append B P,
+        filled .within,
+      );
+      reads = a .reads ++ (this ∷ []);
+      writes = a .writes;
+      input = filled .next ∙ ap (λ i. took i (length B) bytes) (a .input) ∙ sym (took-more noInput (a .reads) this);
+      output = a .output;
+      end-read = end-met;
+      write-failed = a .write-failed;
+      prints = read-prints;
+    };
+    progress = refl;
+    no-less = omega arith;
+    more = λ n. omega (arith, eqb-false (r .count) 0 (or-left (eqb (r .count) 0) _ n));
+  }
+
+-- ---- taking fields and writing their lines
+module _ (f g : Flow) (buffer : List ℕ) (a : Along g buffer) (room : ℕ) {out out' : List ℕ} (r : Fed)
+    (d : Done room (fed (g .ended) room (g .progress) (heldBytes g buffer)) out out' 0 r) (placed : Placed (r .progress)) where
+  abbrev t : Turns
+  t = fed (g .ended) room (g .progress) (heldBytes g buffer)
+
+  pub used-within : r .used ≤ g .held
+  used-within =
+      omega (arith, d .used, fed-within (g .ended) room (g .progress) (heldBytes g buffer) (a .reached), length-take (g .held) buffer)
+
+  -- what is handed over is their text
+  pub text-written : take (r .written) out' ≡ t .text
+  text-written = d .text .text
+
+  -- and it has room
+  pub written-within : r .written ≤ room
+  written-within = omega (arith, d .text .ends, d .text .short)
+
+  module _ (o : Output) (whole : Bool) (sent : o ≡ wrote (g .output) (take (r .written) out') whole) (after : List ℕ)
+      (moved : take (g .held - r .used) after ≡ drop (r .used) (heldBytes g buffer)) (same : length after ≡ length buffer) where
+    abbrev then : Flow
+    then = record {
+      progress = r .progress;
+      held = g .held - r .used;
+      ended = g .ended;
+      failed = not whole;
+      input = g .input;
+      output = o;
+    }
+
+    abbrev now-written : Write
+    now-written = record { bytes = t .text; whole = whole }
+
+    failed-write : not whole ≡ true → WriteFailed (a .writes ++ (now-written ∷ []))
+    failed-write e = record {
+      before = a .writes;
+      bytes = t .text;
+      last = ap (λ b. a .writes ++ (record { bytes = t .text; whole = b } ∷ [])) (not-true whole e);
+    }
+
+    turn-prints : (more : List ℕ) → (g .ended ≡ true → more ≡ [])
+        → printed (bytesOf (a .reads) ++ more)
+        ≡ handedOver (a .writes ++ (now-written ∷ [])) ++ remaining (r .progress) (heldBytes then after ++ more)
+    turn-prints more last =
+        a .prints more last
+        ∙ ap (handedOver (a .writes) ++_) (fed-prints (g .ended) room (g .progress) (heldBytes g buffer) (a .reached) more last)
+        ∙ sym (append-assoc (handedOver (a .writes)) (t .text) _)
+        ∙ ap₂ _++_ (sym (handed-more (a .writes) now-written))
+        (ap₂ (λ p l. remaining p (l ++ more)) (sym (d .progress)) (ap (λ n. drop n (heldBytes g buffer)) (sym (d .used)) ∙ sym moved))
+
+    turn-along : Along then after
+    turn-along = record {
+      reached = subst Reached (sym (d .progress)) (fed-reached (g .ended) room (g .progress) (heldBytes g buffer) (a .reached));
+      placed = placed;
+      within = omega (arith, a .within);
+      reads = a .reads;
+      writes = a .writes ++ (now-written ∷ []);
+      input = a .input;
+      output = sent ∙ ap₂ (λ x y. wrote x y whole) (a .output) text-written ∙ sym (wrote-more noOutput (a .writes) now-written);
+      end-read = a .end-read;
+      write-failed = failed-write;
+      prints = turn-prints;
+    }
+
+    -- fewer turns can follow
+    module _ (refilled : Refilled f g buffer) (on : f .progress .done ≡ false) (large : longestLine ≤ room)
+        (short : length buffer ≤ 131072) where
+      abbrev p : Progress
+      p = g .progress
+
+      going : p .done ≡ false
+      going = ap (λ (q : Progress). q .done) (refilled .progress) ∙ on
+
+      turns-no-more : turnsLeft (r .progress) ≤ turnsLeft p
+      turns-no-more =
+          subst (λ (q : Progress). turnsLeft q ≤ turnsLeft p) (sym (d .progress))
+          (fed-no-more (g .ended) room p (heldBytes g buffer) (a .reached))
+
+      fewer-turns : g .ended || not (cut (heldBytes g buffer)) ≡ true → turnsLeft (r .progress) < turnsLeft p
+      fewer-turns e =
+          subst (λ (q : Progress). turnsLeft q < turnsLeft p) (sym (d .progress))
+          (fed-falls (g .ended) room p (heldBytes g buffer) (a .reached) (ready-by (g .ended) room p (heldBytes g buffer) going e large))
+
+      next-place : r .progress .place ≡ p .place + r .used
+      next-place =
+          ap (λ (q : Progress). q .place) (d .progress) ∙ fed-place (g .ended) room p (heldBytes g buffer) (a .reached)
+          ∙ ap (p .place +_) (sym (d .used))
+
+      place-below : p .place + g .held < 270000000
+      unfolding viewed
+      place-below = omega (arith, a .placed going, a .reached .sound .count-in, a .within)
+
+      from-here : callsLeft then < turnsLeft p + (270000000 - (p .place + f .held))
+      from-here = go (g .ended || not (cut (heldBytes g buffer))) refl
+        where
+          go : (b : Bool) → g .ended || not (cut (heldBytes g buffer)) ≡ b
+              → turnsLeft (r .progress) + (270000000 - (r .progress .place + (g .held - r .used)))
+              < turnsLeft p + (270000000 - (p .place + f .held))
+          go true e = omega (arith, fewer-turns e, next-place, used-within, refilled .no-less)
+          go false e = omega (arith, turns-no-more, next-place, used-within, refilled .more e, place-below)
+
+      turn-falls : callsLeft then < callsLeft f
+      turn-falls =
+          subst (λ (q : Progress). callsLeft then < turnsLeft q + (270000000 - (q .place + f .held))) (refilled .progress) from-here
+
+      pub turn-done : Along then after × (callsLeft then < callsLeft f)
+      turn-done = (turn-along, turn-falls)
+
+-- ---- the loop
+pub starts : {f : Flow} (buffer : List ℕ) → f ≡ startingFlow → Along f buffer × (false ≡ f .failed || f .progress .done)
+starts buffer e = subst (λ (f : Flow). Along f buffer × (false ≡ f .failed || f .progress .done)) (sym e) (along-begins buffer, refl)
+
+pub not-done : (over : Bool) (f : Flow) → over ≡ f .failed || f .progress .done → not over ≡ true → f .progress .done ≡ false
+not-done over f e h = or-right (f .failed) (f .progress .done) (sym e ∙ not-true over h)
+
+-- ---- the end
+nothing-left : (f : Flow) (l : List ℕ) (ws : List Write) → f .progress .done ≡ true
+    → handedOver ws ++ remaining (f .progress) l ≡ handedOver ws
+nothing-left f l ws d =
+    ap (λ b. handedOver ws ++ cond b [] (printedFrom (f .progress .place) (viewed (f .progress .state)) l)) d ∙ append-nil (handedOver ws)
+
+pub streamed : (f : Flow) (buffer : List ℕ) → Along f buffer → f .failed || f .progress .done ≡ true → Streamed f
+streamed f buffer a over = record {
+  reads = a .reads;
+  writes = a .writes;
+  input = a .input;
+  output = a .output;
+  end-read = a .end-read;
+  write-failed = a .write-failed;
+  all = λ went more last. sym (a .prints more last ∙ nothing-left f (heldBytes f buffer ++ more) (a .writes) (by-done went));
+  begins = λ more last. (remaining (f .progress) (heldBytes f buffer ++ more), a .prints more last);
+}
+  where
+    second-true : (x y : Bool) → x || y ≡ true → x ≡ false → y ≡ true
+    second-true true y h e = absurd (true≢false e)
+    second-true false y h e = h
+
+    by-done : f .failed ≡ false → f .progress .done ≡ true
+    by-done = second-true (f .failed) (f .progress .done) over

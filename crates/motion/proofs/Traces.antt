@@ -1,0 +1,27 @@
+-- One read or one write more.
+use mathlib.Core.Path.{_≡_, refl, sym, ap, _∙_}
+use mathlib.Core.List.{List, [], _∷_, _++_, append-assoc, append-nil}
+use Rattle.console.specs.declared.Input.{Input}
+use Rattle.console.specs.declared.Output.{Output}
+use Rattle.console.specs.Trace.{took, wrote}
+use Rattle.motion.specs.Streamed.{Read, tookAll, bytesOf, Write, wroteAll, handedOver}
+
+pub took-more : (i : Input) (rs : List Read) (r : Read) → tookAll i (rs ++ (r ∷ [])) ≡ took (tookAll i rs) (r .asked) (r .bytes)
+unfolding tookAll
+took-more i [] r = refl
+took-more i (q ∷ rs) r = took-more (took i (q .asked) (q .bytes)) rs r
+
+pub bytes-more : (rs : List Read) (r : Read) → bytesOf (rs ++ (r ∷ [])) ≡ bytesOf rs ++ r .bytes
+unfolding bytesOf
+bytes-more [] r = append-nil (r .bytes)
+bytes-more (q ∷ rs) r = ap (q .bytes ++_) (bytes-more rs r) ∙ sym (append-assoc (q .bytes) (bytesOf rs) (r .bytes))
+
+pub wrote-more : (o : Output) (ws : List Write) (w : Write) → wroteAll o (ws ++ (w ∷ [])) ≡ wrote (wroteAll o ws) (w .bytes) (w .whole)
+unfolding wroteAll
+wrote-more o [] w = refl
+wrote-more o (v ∷ ws) w = wrote-more (wrote o (v .bytes) (v .whole)) ws w
+
+pub handed-more : (ws : List Write) (w : Write) → handedOver (ws ++ (w ∷ [])) ≡ handedOver ws ++ w .bytes
+unfolding handedOver
+handed-more [] w = append-nil (w .bytes)
+handed-more (v ∷ ws) w = ap (v .bytes ++_) (handed-more ws w) ∙ sym (append-assoc (v .bytes) (handedOver ws) (w .bytes))

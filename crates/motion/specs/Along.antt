@@ -1,0 +1,54 @@
+-- What the program knows between turns.
+use mathlib.Core.Path.{_≡_}
+use mathlib.Core.List.{List, [], _++_}
+use mathlib.Core.Bool.{true, false, not, _||_}
+use Prim.Native.Nat.{ℕ, _+_, _-_, _≤_, _<_}
+use lib.ListN.{length, take}
+use Rattle.model.specs.Run.{cut}
+use Rattle.model.specs.Text.{printed}
+use Rattle.console.specs.Trace.{noInput, noOutput}
+use Rattle.feeding.specs.Fed as Feeding
+use Rattle.feeding.specs.Reached.{Reached, Placed, remaining, turnsLeft}
+use Rattle.motion.specs.declared.Flow.{Flow}
+use Rattle.motion.specs.Streamed.{Read, tookAll, bytesOf, Write, wroteAll, handedOver, EndRead, WriteFailed}
+
+-- before the first turn
+abbrev pub startingFlow : Flow
+startingFlow = record {
+  progress = Feeding.starting;
+  held = 0;
+  ended = false;
+  failed = false;
+  input = noInput;
+  output = noOutput;
+}
+
+-- the bytes that are not used yet
+abbrev pub heldBytes : Flow → List ℕ → List ℕ
+heldBytes f buffer = take (f .held) buffer
+
+-- after some turns
+pub record Along (f : Flow) (buffer : List ℕ) : Type 0 where
+  pub reached : Reached (f .progress)
+  pub placed : Placed (f .progress)
+  pub within : f .held ≤ length buffer
+  pub reads : List Read
+  pub writes : List Write
+  pub input : f .input ≡ tookAll noInput reads
+  pub output : f .output ≡ wroteAll noOutput writes
+  pub end-read : f .ended ≡ true → EndRead reads
+  pub write-failed : f .failed ≡ true → WriteFailed writes
+  -- what was written, and what is still to be printed
+  pub prints : (more : List ℕ) → (f .ended ≡ true → more ≡ [])
+      → printed (bytesOf reads ++ more) ≡ handedOver writes ++ remaining (f .progress) (heldBytes f buffer ++ more)
+
+-- after reading on: the run stays as it is, and where it can't go on yet a byte more is there
+pub record Refilled (f r : Flow) (after : List ℕ) : Type 0 where
+  pub along : Along r after
+  pub progress : r .progress ≡ f .progress
+  pub no-less : f .held ≤ r .held
+  pub more : r .ended || not (cut (heldBytes r after)) ≡ false → f .held < r .held
+
+-- how many turns can follow at most: those of the run, and those that read a byte more
+abbrev pub callsLeft : Flow → ℕ
+callsLeft f = turnsLeft (f .progress) + (270000000 - (f .progress .place + f .held))
