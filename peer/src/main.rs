@@ -9,7 +9,7 @@ use peer::workload::WORKLOADS;
 use peer::{follow, generate, text};
 
 const MAX_MOTIONS: u64 = 65_536;
-const FILES: u64 = 2_400;
+const FILES: u64 = 4_000;
 
 const USAGE: &str = "usage:
   peer motion < run                    the lines of document 01's program
@@ -18,7 +18,7 @@ const USAGE: &str = "usage:
   peer generate [KIND SEED] > run      a run file to try programs with; without arguments the kinds
   peer workload [NAME] > run           a run file to measure programs with; without argument the names
   peer compare PROGRAM [WORD..] [--files N] [--seed S]
-                                       a program held against this one on N generated files (2,400 if not said);
+                                       a program held against this one on N generated files (4,000 if not said);
                                        status 1, and the file, at the first difference
 ";
 

@@ -1,7 +1,7 @@
 //! Run files aimed at one refusal, and at the order of refusals.
 
 use super::faults::{body_of, break_count, break_length, break_rule, break_tag, out_of_range, widen};
-use super::limits::{full, plain_set, zero_step};
+use super::plain::{plain_set, unchanged, zero_step};
 use super::valid::{next_field, prefix, Builder, MIXED};
 use crate::field::Field;
 use crate::finish::Limits;
@@ -19,7 +19,7 @@ pub fn refused(random: &mut Random, number: u8) -> Vec<u8> {
             [start.encode(), sum.encode()].concat()
         }
         10 => too_wide_result(random),
-        12 => [full(MAX_FIELDS), random_bytes(random, 1)].concat(),
+        12 => [unchanged(MAX_FIELDS), random_bytes(random, 1)].concat(),
         _ => {
             let mut builder = some_prefix(random);
             let mut bytes = loop {
@@ -89,7 +89,7 @@ pub fn several_causes(random: &mut Random) -> Vec<u8> {
         break_tag(random, &mut bytes, before.is_empty());
     }
     if random.once_in(16) {
-        before = full(MAX_FIELDS);
+        before = unchanged(MAX_FIELDS);
     }
     [before, bytes].concat()
 }

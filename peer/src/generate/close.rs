@@ -3,6 +3,7 @@
 use std::collections::BTreeSet;
 
 use super::parts::region;
+use super::plain::zero_step;
 use super::valid::Builder;
 use crate::field::Field;
 use crate::finish::Limits;
@@ -102,7 +103,7 @@ fn tied_sizes(random: &mut Random, n: usize, factors: usize) -> Set {
 
 /// Each coordinate becomes one of them, or its negative: exact, but places change their weight.
 fn exchange(random: &mut Random, n: usize) -> Step {
-    let mut step = super::limits::zero_step(n, n);
+    let mut step = zero_step(n, n);
     for row in &mut step.matrix {
         row[random.below(n)] = *random.pick(&[UNIT, -UNIT]);
     }

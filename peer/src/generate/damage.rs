@@ -50,7 +50,7 @@ pub fn bytes(random: &mut Random) -> Vec<u8> {
     bytes
 }
 
-/// After a short run a field with many more bytes than its counts give, all of them or nearly all.
+/// After a short run a field with many more bytes than its counts, good or bad, can give; all of them or nearly all.
 pub fn long_field(random: &mut Random) -> Vec<u8> {
     let fields = random.below(3);
     let mut bytes = prefix(random, &MIXED, fields).bytes;
@@ -58,7 +58,8 @@ pub fn long_field(random: &mut Random) -> Vec<u8> {
     bytes.push(if random.once_in(8) { random.word() as u8 } else { 2 + random.below(6) as u8 });
     bytes.extend((length as u16).to_le_bytes());
     let there = length - if random.once_in(3) { 1 + random.below(3) } else { 0 };
-    bytes.extend([2; 4]);
+    let bad = random.once_in(2);
+    bytes.extend([0; 4].map(|_| if bad { *random.pick(&[0, 2, 7, 41, 255]) } else { 2 }));
     bytes.resize(bytes.len() - 4 + there, random.word() as u8);
     if there == length && random.once_in(3) {
         bytes.extend(noise(random, 9));

@@ -6,6 +6,7 @@ mod damage;
 mod faults;
 mod limits;
 mod parts;
+mod plain;
 mod valid;
 
 use crate::random::Random;
@@ -16,7 +17,13 @@ pub struct Kind {
     pub about: &'static str,
     /// Its files have thousands of fields: fewer of them will do.
     pub long: bool,
-    make: fn(&mut Random) -> Vec<u8>,
+    make: Make,
+}
+
+enum Make {
+    Drawn(fn(&mut Random) -> Vec<u8>),
+    /// The seed itself says which of several cases it is.
+    InTurn(fn(&mut Random, u64) -> Vec<u8>),
 }
 
 /// The kinds whose files a run accepts to the end.
@@ -33,7 +40,7 @@ pub static VALID: [Kind; 13] = [
     kind("ties", "valid: reductions among equal sizes, where weights and places decide", close::ties),
     kind("halves", "valid: steps among powers of two, where many numbers are exact halves", close::halves),
     long("long", "valid: 4,097 fields of all kinds, the most that a run may have", |r| valid::run(r, &valid::LONG)),
-    long("plain-4097", "valid: as many fields that change little", |r| limits::plain_run(r, MAX_FIELDS)),
+    long("plain-4097", "valid: as many fields that change little", |r| plain::little_changed(r, MAX_FIELDS)),
 ];
 
 /// The kinds whose files are refused with the number in their name.
@@ -51,10 +58,12 @@ pub static REFUSED: [Kind; 11] = [
     kind("refusal-12", "a field after the last that may follow", |r| aimed::refused(r, 12)),
 ];
 
-pub static OTHERS: [Kind; 8] = [
-    long("plain-4098", "one field more than a run may have", |r| limits::plain_run(r, MAX_FIELDS + 1)),
+pub static OTHERS: [Kind; 10] = [
+    long("plain-4098", "one field more than a run may have", |r| plain::little_changed(r, MAX_FIELDS + 1)),
     kind("order", "several causes of refusal in one field", aimed::several_causes),
-    kind("limits", "a number or count at a limit or one beyond", limits::at_a_limit),
+    in_turn("limits", "a number at its limit, one below or one above", limits::number),
+    in_turn("counts", "a count at its limit, one below or one above", limits::count),
+    kind("fullest", "sets and a step with all counts at their limits", limits::fullest),
     kind("folds", "odd folds in sets as wide as can be", close::odd_folds),
     kind("lengths", "a field that states up to 65,535 bytes, which are there or not quite", damage::long_field),
     kind("cut", "a valid file cut somewhere", damage::cut),
@@ -63,7 +72,11 @@ pub static OTHERS: [Kind; 8] = [
 ];
 
 const fn kind(name: &'static str, about: &'static str, make: fn(&mut Random) -> Vec<u8>) -> Kind {
-    Kind { name, about, long: false, make }
+    Kind { name, about, long: false, make: Make::Drawn(make) }
+}
+
+const fn in_turn(name: &'static str, about: &'static str, make: fn(&mut Random, u64) -> Vec<u8>) -> Kind {
+    Kind { name, about, long: false, make: Make::InTurn(make) }
 }
 
 const fn long(name: &'static str, about: &'static str, make: fn(&mut Random) -> Vec<u8>) -> Kind {
@@ -74,7 +87,11 @@ impl Kind {
     pub fn file(&self, seed: u64) -> Vec<u8> {
         // The name joins the seed so that kinds with the same seed differ in their picks too.
         let mixed = self.name.bytes().fold(seed, |s, b| s.wrapping_mul(1_099_511_628_211) ^ u64::from(b));
-        (self.make)(&mut Random::new(mixed))
+        let mut random = Random::new(mixed);
+        match self.make {
+            Make::Drawn(make) => make(&mut random),
+            Make::InTurn(make) => make(&mut random, seed),
+        }
     }
 }
 

@@ -1,0 +1,54 @@
+//! The plain sets, steps and runs that files aimed at something are made of.
+
+use crate::bounds::Halfspace;
+use crate::field::Field;
+use crate::finish::Limits;
+use crate::random::Random;
+use crate::set::{Set, Term, MAX_GENERATORS, MAX_TERMS};
+use crate::step::{Step, UNIT};
+
+/// A set of the given counts, in limits or not, with all numbers 1 and zero centre and radii.
+pub fn plain_set(n: usize, p: usize, h: usize, q: usize) -> Set {
+    Set {
+        identifiers: (1..).take(p).collect(),
+        centre: vec![0; n],
+        terms: (1..).take(h).map(|e| Term { exponents: vec![e; p], coefficients: vec![1; n] }).collect(),
+        generators: vec![vec![1; n]; q],
+        radii: vec![0; n],
+    }
+}
+
+pub fn zero_step(m: usize, n: usize) -> Step {
+    Step { constant: vec![0; m], matrix: vec![vec![0; n]; m], forms: vec![vec![vec![0; n]; n]; m] }
+}
+
+/// A start set and so many fields after it that change nothing.
+pub fn unchanged(fields: usize) -> Vec<u8> {
+    let reduce = Field::Reduce(Limits { terms: MAX_TERMS, generators: MAX_GENERATORS });
+    [Field::Start(plain_set(1, 1, 1, 0)).encode(), reduce.encode().repeat(fields)].concat()
+}
+
+/// A start set and so many fields after it that leave it as wide as it was or wider by a little.
+pub fn little_changed(random: &mut Random, fields: usize) -> Vec<u8> {
+    let n = 1 + random.below(2);
+    let mut bytes = Field::Start(plain_set(n, 1, 2, 1)).encode();
+    let mut same = zero_step(n, n);
+    (0..n).for_each(|i| same.matrix[i][i] = UNIT);
+    for _ in 0..fields {
+        let field = match random.below(5) {
+            0 => Field::Reduce(Limits {
+                terms: random.below(1 + MAX_TERMS),
+                generators: random.below(1 + MAX_GENERATORS),
+            }),
+            1 => Field::Disturbance((0..n).map(|_| random.between(0, 3)).collect()),
+            2 => Field::Step(same.clone()),
+            3 => Field::Tied(plain_set(n, 0, 0, 0)),
+            _ => {
+                let normal = (0..n).map(|_| random.between(-2, 2)).collect();
+                Field::Check(vec![Halfspace { normal, bound: -random.between(0, 20_000) }])
+            }
+        };
+        bytes.extend(field.encode());
+    }
+    bytes
+}
