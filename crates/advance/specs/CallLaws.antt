@@ -41,7 +41,7 @@ use Rattle.advance.specs.Kinds.{acceptedAs, refusedAs, judgedAs, conclud
 use Rattle.advance.specs.Kinds.{box-advanced, box-limits, cause-is, changed-limits, changed-advanced}
 use Rattle.advance.specs.ConclusionLaws.{concluded-as}
 
--- every kind but the independent sum, which alone asks for the next identifier
+-- the independent sum alone asks for the next identifier
 abbrev numbered : Kind → Bool
 numbered start = false
 numbered step = false

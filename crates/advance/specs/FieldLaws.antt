@@ -151,7 +151,12 @@ module _ (st : State) (f : List ℕ) (on : st .over ≡ false) {n : ℕ} (header
           outcome = cond over skipped (elim o [ none ↦ meant (viewed st) f .outcome | some n ↦ refused n place ]);
         }) (length f);
         state = left st (cond over (viewed st) (elim o [
-          | none ↦ record { set = some (meant (viewed st) f .result); next = meant (viewed st) f .next; count = st .count + 1; over = false }
+          | none ↦ record {
+            set = some (meant (viewed st) f .result);
+            next = meant (viewed st) f .next;
+            count = st .count + 1;
+            over = false;
+          }
           | some n ↦ record { set = viewed st .set; next = st .next; count = st .count; over = true }
         ]));
         worked = cond over false (isStep (kindOf (tag f)) && worked o);

@@ -163,7 +163,8 @@ module _ (st : State) (run : Running st) where
       let below = or-right (ltb (st .next) firstFresh || ltb lastFresh (st .next)) _ (run .next) in
       let valid = subst (Shape.Valid _) (sym (current-is st h)) (accepted-valid (st .set) (run .set h .passed)) in
       held (st .next) valid
-      (All-imp (λ k e. ltb-true k (st .next) (not-false _ e)) (any-false (λ k. not (ltb k (st .next))) (current (viewed st) .identifiers) below))
+      (All-imp (λ k e. ltb-true k (st .next) (not-false _ e))
+      (any-false (λ k. not (ltb k (st .next))) (current (viewed st) .identifiers) below))
 
   -- a field of this kind and body, which is a start set or finds a set
   module _ (k : Kind) (b : List ℕ) (there : starts k ≡ false → 0 < st .count) where
@@ -177,7 +178,8 @@ module _ (st : State) (run : Running st) where
     pub result-means : cause ≡ none → (view (pack (m .result)) ≡ m .result) × InLimits (pack (m .result))
     unfolding pack
     result-means e =
-        let h = leaves k b (st .next) (current (viewed st)) from-first (λ q. now-held (there q)) (body-passed k b (st .next) (current (viewed st)) e) .holds in
+        let h = leaves k b (st .next) (current (viewed st)) from-first (λ q. now-held (there q))
+        (body-passed k b (st .next) (current (viewed st)) e) .holds in
         let counts = Shape.counts-false (h .counts) in
         (view-pack (m .result) (h .shaped) counts, countable (m .result) counts)
 
@@ -249,11 +251,17 @@ module _ (st : State) (f : List ℕ) (on : st .over ≡ false) (header : firstOf
               outcome = cond over skipped (elim o [ none ↦ meant (viewed st) f .outcome | some n ↦ refused n place ]);
             }) (length f);
             state = left st (cond over (viewed st) (elim o [
-              | none ↦ record { set = some (meant (viewed st) f .result); next = meant (viewed st) f .next; count = st .count + 1; over = false }
+              | none ↦ record {
+                set = some (meant (viewed st) f .result);
+                next = meant (viewed st) f .next;
+                count = st .count + 1;
+                over = false;
+              }
               | some n ↦ record { set = viewed st .set; next = st .next; count = st .count; over = true }
             ]));
             worked = cond over false (isStep (kindOf (tag f)) && worked o);
-          }) (byCause place st (kindOf (tag f)) (body f) (length f) (bodyRefusal (kindOf (tag f)) (body f) (st .next) (current (viewed st))))
+          }) (byCause place st (kindOf (tag f)) (body f) (length f)
+          (bodyRefusal (kindOf (tag f)) (body f) (st .next) (current (viewed st))))
       go over e o q = rw (e, q)
 
   -- one that is no start set finds a set

@@ -1,10 +1,10 @@
 // Runs through Design's calls: document 01's listing and its variants, a refusal of each number that a file can give, and 4,096 fields after a
 // start set with one more. Standard input holds the runs, each as the length of its bytes (2 bytes), a byte that is 1 where only the end is
 // shown, and the run file. Its `stdout` was worked out by other means: docs/EXAMPLES.md.
-ghost use Prim.Native.Nat.{_≤_};
+ghost use mathlib.Core.Path.{_≡_};
 ghost use lib.ListN.{length};
 
-mod show;
+mod told;
 
 // The work slices of a step.
 fn numbers() -> [i64; 5160]
@@ -23,10 +23,11 @@ fn exponents() -> [u8; 10320]
 fn play(input: &[u8], w: &mut [i64], e: &mut [u8]) {
     let mut st = run::begin();
     let mut at: usize = 0;
-    for _ in 0..4098 {
+    let mut fields: usize = 0;
+    while fields < 4098 {
         let r = run::field(st, at, &input[at..], w, e);
         let a = r.answer;
-        show::answer(a, tag(input, at));
+        told::answer(a, tag(input, at));
         let bytes = a.bytes;
         if input.len() - at < bytes {
             return;
@@ -36,6 +37,7 @@ fn play(input: &[u8], w: &mut [i64], e: &mut [u8]) {
         if st.over | (at == input.len()) {
             return;
         }
+        fields += 1;
     }
 }
 
@@ -51,8 +53,18 @@ fn tag(input: &[u8], at: usize) -> u8 {
 fn finish(input: &[u8], w: &mut [i64], e: &mut [u8]) {
     let r = run::run(input, w, e);
     let a = r.last;
-    show::accepted(r.accepted);
-    show::outcome(a);
+    told::accepted(r.accepted);
+    told::outcome(a);
+}
+
+// One run: its end alone, or all of it.
+fn show(brief: bool, input: &[u8], w: &mut [i64], e: &mut [u8]) {
+    if brief {
+        finish(input, w, e);
+        return;
+    }
+    play(input, w, e);
+    finish(input, w, e);
 }
 
 fn main() {
@@ -69,10 +81,7 @@ fn main() {
             return;
         }
         let to = from + length;
-        if brief == 0 {
-            play(&input[from..to], &mut w, &mut e);
-        }
-        finish(&input[from..to], &mut w, &mut e);
+        show(brief == 1, &input[from..to], &mut w, &mut e);
         at = to;
     }
 }

@@ -37,8 +37,15 @@ enum-told c = search needs
 
 whole-requires : tie.Need-whole-requires
 whole-requires c κs =
-    let t = c .before .before in let h = t .before .before in let i = h .before in let f = i .before in let s = f .before .before .before in
-    (s .pre .0, i .if1 .left, accepted _ (sym (h .of-header .ensures) ∙ t .enum-told .given .1), f .field-bytes .ensures, s .pre .1, s .pre .2)
+    let t = c .before .before in let h = t .before .before in let i = h .before in let f = i .before in
+    let s = f .before .before .before in (
+      s .pre .0,
+      i .if1 .left,
+      accepted _ (sym (h .of-header .ensures) ∙ t .enum-told .given .1),
+      f .field-bytes .ensures,
+      s .pre .1,
+      s .pre .2,
+    )
 
 returns-2 : tie.Need-returns-2
 returns-2 c =

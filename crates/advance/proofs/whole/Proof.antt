@@ -15,7 +15,7 @@ shared-slice-read-t : tie.Need-shared-slice-read-t
 shared-slice-read-t c = let k = there (c .before .before .before) in omega (arith, k .0, k .1)
 
 sub-by-tag : tie.Need-sub-by-tag
-sub-by-tag c = there (c .before .before .before) .0
+sub-by-tag c = omega (arith, there (c .before .before .before) .0)
 
 part-by-tag-start : tie.Need-part-by-tag-start
 part-by-tag-start c = let k = there (c .before .before .before) in omega (arith, k .0, k .1)

@@ -12,8 +12,8 @@ start e = e .before .before .before .before .before .before
 is-check : (e : tie.Else5) → start e .args .t ≡ 7
 is-check e =
     let s = start e in
-    last-tag (s .args .t) (s .pre .0 .known) (e .before .before .before .before .if1 .left) (s .pre .1) (e .before .before .before .if2 .left)
-    (e .before .before .if3 .left) (e .before .if4 .left) (e .if5 .left)
+    last-tag (s .args .t) (s .pre .0 .known) (e .before .before .before .before .if1 .left) (s .pre .1)
+    (e .before .before .before .if2 .left) (e .before .before .if3 .left) (e .before .if4 .left) (e .if5 .left)
 
 started-requires : tie.Need-started-requires
 started-requires c κs = let s = c .before .before in (s .pre .0 .running, s .pre .0 .few)
@@ -21,7 +21,8 @@ started-requires c κs = let s = c .before .before in (s .pre .0 .running, s .pr
 returns : tie.Need-returns
 unfolding kindOf
 returns c =
-    let a = c .before .before .before .args in tag-advanced 1 (a .place) (a .st) (a .body .now) (a .bytes) (c .before .if1 .taken) (c .started .ensures)
+    let a = c .before .before .before .args in
+    tag-advanced 1 (a .place) (a .st) (a .body .now) (a .bytes) (c .before .if1 .taken) (c .started .ensures)
 
 disturbed-requires : tie.Need-disturbed-requires
 disturbed-requires c κs = later (c .before .before .before .pre .0) (c .before .if1 .left)
@@ -29,7 +30,8 @@ disturbed-requires c κs = later (c .before .before .before .pre .0) (c .before 
 returns-2 : tie.Need-returns-2
 unfolding kindOf
 returns-2 c =
-    let a = c .before .before .before .before .args in tag-advanced 3 (a .place) (a .st) (a .body .now) (a .bytes) (c .before .if2 .taken) (c .disturbed .ensures)
+    let a = c .before .before .before .before .args in
+    tag-advanced 3 (a .place) (a .st) (a .body .now) (a .bytes) (c .before .if2 .taken) (c .disturbed .ensures)
 
 summed-requires : tie.Need-summed-requires
 summed-requires c κs = later (c .before .before .before .before .pre .0) (c .before .before .if1 .left)
@@ -37,7 +39,8 @@ summed-requires c κs = later (c .before .before .before .before .pre .0) (c .be
 returns-3 : tie.Need-returns-3
 unfolding kindOf
 returns-3 c =
-    let a = c .before .before .before .before .before .args in tag-advanced 4 (a .place) (a .st) (a .body .now) (a .bytes) (c .before .if3 .taken) (c .summed .ensures)
+    let a = c .before .before .before .before .before .args in
+    tag-advanced 4 (a .place) (a .st) (a .body .now) (a .bytes) (c .before .if3 .taken) (c .summed .ensures)
 
 tied-requires : tie.Need-tied-requires
 tied-requires c κs = later (c .before .before .before .before .before .pre .0) (c .before .before .before .if1 .left)
@@ -45,7 +48,8 @@ tied-requires c κs = later (c .before .before .before .before .before .pre .0) 
 returns-4 : tie.Need-returns-4
 unfolding kindOf
 returns-4 c =
-    let a = c .before .before .before .before .before .before .args in tag-advanced 5 (a .place) (a .st) (a .body .now) (a .bytes) (c .before .if4 .taken) (c .tied .ensures)
+    let a = c .before .before .before .before .before .before .args in
+    tag-advanced 5 (a .place) (a .st) (a .body .now) (a .bytes) (c .before .if4 .taken) (c .tied .ensures)
 
 reduced-requires : tie.Need-reduced-requires
 reduced-requires c κs = later (c .before .before .before .before .before .before .pre .0) (c .before .before .before .before .if1 .left)
@@ -53,7 +57,8 @@ reduced-requires c κs = later (c .before .before .before .before .before .befor
 returns-5 : tie.Need-returns-5
 unfolding kindOf
 returns-5 c =
-    let a = c .before .before .before .before .before .before .before .args in tag-advanced 6 (a .place) (a .st) (a .body .now) (a .bytes) (c .before .if5 .taken) (c .reduced .ensures)
+    let a = c .before .before .before .before .before .before .before .args in
+    tag-advanced 6 (a .place) (a .st) (a .body .now) (a .bytes) (c .before .if5 .taken) (c .reduced .ensures)
 
 checked-requires : tie.Need-checked-requires
 checked-requires c κs = later (start c .pre .0) (c .before .before .before .before .if1 .left)

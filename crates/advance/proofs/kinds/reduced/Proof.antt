@@ -16,8 +16,8 @@ changed-requires c κs =
 returns : tie.Need-returns
 returns c =
     let s = c .before .before .before .before in let a = s .args in
-    made-advanced (a .st) (s .pre .0) (s .pre .1) reduction (a .body .now) refl (c .before .reduce .ensures) (a .place) (a .bytes) refl refl
-    (c .changed .ensures)
+    made-advanced (a .st) (s .pre .0) (s .pre .1) reduction (a .body .now) refl (c .before .reduce .ensures)
+    (a .place) (a .bytes) refl refl (c .changed .ensures)
 
 pub reduced-spec : {M : Type 1} → statement M
 reduced-spec = tie.close (tie.spec reduce-requires changed-requires returns)

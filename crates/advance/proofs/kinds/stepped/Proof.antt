@@ -16,7 +16,8 @@ abbrev called : tie.After-was-worked → tie.After-step
 called w = w .before .before .before .before
 
 -- whether the step was worked out
-told : (w : tie.After-was-worked) → (let a = start (called w) .args in w .was-worked .result ≡ worked (bodyRefusal step (a .body .now) 0 (view (a .st .set))))
+told : (w : tie.After-was-worked)
+    → (let a = start (called w) .args in w .was-worked .result ≡ worked (bodyRefusal step (a .body .now) 0 (view (a .st .set))))
 told w =
     let t = called w in let a = start t .args in let u = view (a .st .set) in
     w .was-worked .ensures
@@ -42,8 +43,8 @@ same-length-2 c = search needs
 returns : tie.Need-returns
 returns c =
     let t = called (c .before) in let s = start t in let a = s .args in
-    let yes = worked-said (a .st) (a .place) (a .bytes) (a .st .next) (t .step .result) (c .before .was-worked .result) (c .changed .ensures)
-    ∙ told (c .before) in (
+    let yes = worked-said (a .st) (a .place) (a .bytes) (a .st .next) (t .step .result) (c .before .was-worked .result)
+    (c .changed .ensures) ∙ told (c .before) in (
       made-advanced (a .st) (s .pre .0) (s .pre .1) step (a .body .now) refl (t .step .ensures .0) (a .place) (a .bytes) refl
           (told (c .before)) (c .changed .ensures),
       (step-used yes (t .step .ensures .1 .0), step-used yes (t .step .ensures .1 .1)),

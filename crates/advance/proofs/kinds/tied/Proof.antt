@@ -16,8 +16,8 @@ changed-requires c κs =
 returns : tie.Need-returns
 returns c =
     let s = c .before .before .before .before in let a = s .args in
-    made-advanced (a .st) (s .pre .0) (s .pre .1) tied (a .body .now) refl (c .before .tied .ensures) (a .place) (a .bytes) refl refl
-    (c .changed .ensures)
+    made-advanced (a .st) (s .pre .0) (s .pre .1) tied (a .body .now) refl (c .before .tied .ensures)
+    (a .place) (a .bytes) refl refl (c .changed .ensures)
 
 pub tied-spec : {M : Type 1} → statement M
 tied-spec = tie.close (tie.spec tied-requires changed-requires returns)

@@ -68,10 +68,18 @@ fn refusal(r: Refusal) {
 }
 
 fn ends(n: usize, low: &[i64; 6], high: &[i64; 6]) {
-    for i in 0..6 {
-        if i < n {
-            number(low[i]);
-            number(high[i]);
-        }
+    pair(0 < n, low[0], high[0]);
+    pair(1 < n, low[1], high[1]);
+    pair(2 < n, low[2], high[2]);
+    pair(3 < n, low[3], high[3]);
+    pair(4 < n, low[4], high[4]);
+    pair(5 < n, low[5], high[5]);
+}
+
+// The ends of a coordinate that is there.
+fn pair(there: bool, low: i64, high: i64) {
+    if there {
+        number(low);
+        number(high);
     }
 }
