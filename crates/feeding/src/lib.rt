@@ -1,5 +1,6 @@
-// A run from input that comes in pieces: whole fields are taken from what was read so far, and their lines written into a lent slice. The
-// functions ask for a progress that calls can lead to; `feed` is for any caller.
+// A run from input that comes in pieces: whole fields are taken from what was read so far, and their lines written into a lent slice. A
+// part of `motion`: a progress is what `begin` gives and `feed` leaves. However an input is cut, what the calls hand over is what is
+// printed for it (specs/Pieces.antt).
 ghost use mathlib.Core.Path.{_≡_};
 ghost use mathlib.Core.Bool.{false, not};
 ghost use Prim.Native.Nat.{_+_, _≤_, _<_};
