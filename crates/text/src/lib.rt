@@ -7,7 +7,7 @@ ghost use Rattle.text.specs.Appended.{Appended};
 ghost use Rattle.text.specs.Pieces.{firsts};
 ghost use Rattle.text.specs.Lines.{longestLine};
 
-pub mod words;
+pub mod appending;
 
 // No line is longer.
 pub const LONGEST_LINE: usize = 320;
@@ -26,10 +26,10 @@ pub fn box_line(
     ensures { λ r. ⌜ Appended longestLine (now (out .entry)) (now (out .exit)) at r
         (boxLine field tag (firsts n (now (low .entry))) (firsts n (now (high .entry)))) ⌝ }
 {
-    let a = words::append_number(out, at, field as u64);
-    let b = words::append_item(out, a, whole::widen_u8(tag));
-    let c = words::append_ends(out, b, n, low, high);
-    words::append(out, c, b"\n")
+    let a = appending::append_number(out, at, field as u64);
+    let b = appending::append_item(out, a, whole::widen_u8(tag));
+    let c = appending::append_ends(out, b, n, low, high);
+    appending::append(out, c, b"\n")
 }
 
 // The line of an accepted check.
@@ -37,9 +37,9 @@ pub fn verdict_line(out: &mut [u8], at: usize, field: usize, tag: u8, safe: bool
     requires { ⌜ at + longestLine ≤ length (now out) ⌝ }
     ensures { λ r. ⌜ Appended longestLine (now (out .entry)) (now (out .exit)) at r (verdictLine field tag safe) ⌝ }
 {
-    let a = words::append_number(out, at, field as u64);
-    let b = words::append_item(out, a, whole::widen_u8(tag));
-    words::append_verdict(out, b, safe)
+    let a = appending::append_number(out, at, field as u64);
+    let b = appending::append_item(out, a, whole::widen_u8(tag));
+    appending::append_verdict(out, b, safe)
 }
 
 // The line of a refused field whose first byte is at `place`.
@@ -47,11 +47,11 @@ pub fn refusal_line(out: &mut [u8], at: usize, field: usize, number: u8, place: 
     requires { ⌜ at + longestLine ≤ length (now out) ⌝ }
     ensures { λ r. ⌜ Appended longestLine (now (out .entry)) (now (out .exit)) at r (refusalLine field number place) ⌝ }
 {
-    let a = words::append_number(out, at, field as u64);
-    let b = words::append(out, a, b" refused");
-    let c = words::append_item(out, b, whole::widen_u8(number));
-    let d = words::append_item(out, c, place as u64);
-    words::append(out, d, b"\n")
+    let a = appending::append_number(out, at, field as u64);
+    let b = appending::append(out, a, b" refused");
+    let c = appending::append_item(out, b, whole::widen_u8(number));
+    let d = appending::append_item(out, c, place as u64);
+    appending::append(out, d, b"\n")
 }
 
 // The last line of a run in which no field was refused: the number of the last one.
@@ -59,7 +59,7 @@ pub fn end_line(out: &mut [u8], at: usize, field: usize) -> usize
     requires { ⌜ at + longestLine ≤ length (now out) ⌝ }
     ensures { λ r. ⌜ Appended longestLine (now (out .entry)) (now (out .exit)) at r (endLine field) ⌝ }
 {
-    let a = words::append(out, at, b"end");
-    let b = words::append_item(out, a, field as u64);
-    words::append(out, b, b"\n")
+    let a = appending::append(out, at, b"end");
+    let b = appending::append_item(out, a, field as u64);
+    appending::append(out, b, b"\n")
 }

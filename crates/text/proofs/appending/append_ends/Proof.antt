@@ -1,4 +1,4 @@
--- `text::words::append_ends` meets its contract: two ends a turn.
+-- `text::appending::append_ends` meets its contract: two ends a turn.
 use mathlib.Core.Path.{_≡_, refl, ap, _∙_}
 use Prim.Native.Nat.{_*_, _-_, _≤_}
 use native.Mathlib.Nat.{le-antisymm}
@@ -11,8 +11,8 @@ use Rattle.text.specs.Appended.{Appended, none-put, named}
 use Rattle.text.specs.Pieces.{firsts, spaced, no-ends, ends-put}
 use borrow.Author.Needs.{needs}
 use native.Mathlib.Omega.{arith}
-use Rattle.text.proofs.words.append_ends.Statement.{statement}
-use Rattle.text.proofs.words.append_ends.Tie as tie
+use Rattle.text.proofs.appending.append_ends.Statement.{statement}
+use Rattle.text.proofs.appending.append_ends.Tie as tie
 
 abbrev Inv-loop : tie.InvT-loop
 Inv-loop out₀ at n low high o₀ i₀ out o i =

@@ -1,4 +1,4 @@
--- `text::words::append` meets its contract: after j turns the first j bytes of the piece stand from the place on.
+-- `text::appending::append` meets its contract: after j turns the first j bytes of the piece stand from the place on.
 use borrow.Author.Needs.{needs}
 use native.Mathlib.Omega.{arith}
 use mathlib.Core.Path.{_≡_, refl}
@@ -7,8 +7,8 @@ use lib.ListN.{length, length-set}
 use lib.Seq.{paste}
 use denote.Ref.{now}
 use Rattle.text.specs.Appended.{filling-begins, filling-goes-on, filling-ends}
-use Rattle.text.proofs.words.append.Statement.{statement}
-use Rattle.text.proofs.words.append.Tie as tie
+use Rattle.text.proofs.appending.append.Statement.{statement}
+use Rattle.text.proofs.appending.append.Tie as tie
 
 abbrev Inv-loop : tie.InvT-loop
 Inv-loop out₀ at piece j₀ out j = (j ≤ length piece) × (out ≡ paste out₀ at piece j) × (length out ≡ length out₀)

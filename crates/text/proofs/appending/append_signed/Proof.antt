@@ -1,4 +1,4 @@
--- `text::words::append_signed` meets its contract: the sign, then the digits of the size.
+-- `text::appending::append_signed` meets its contract: the sign, then the digits of the size.
 use native.Mathlib.Omega.{arith}
 use borrow.Author.Needs.{needs}
 use mathlib.Core.Path.{ap, _∙_}
@@ -7,8 +7,8 @@ use mir.Syntax.{w64}
 use mir.ValLaws.{toZ-ofZ}
 use Rattle.model.specs.Text.{ascii}
 use Rattle.text.specs.Pieces.{negative-put, positive-put}
-use Rattle.text.proofs.words.append_signed.Statement.{statement}
-use Rattle.text.proofs.words.append_signed.Tie as tie
+use Rattle.text.proofs.appending.append_signed.Statement.{statement}
+use Rattle.text.proofs.appending.append_signed.Tie as tie
 
 size-requires : tie.Need-size-requires
 size-requires c κs = search needs

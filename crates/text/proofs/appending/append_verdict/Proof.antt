@@ -1,9 +1,9 @@
--- `text::words::append_verdict` meets its contract: one word or the other.
+-- `text::appending::append_verdict` meets its contract: one word or the other.
 use Rattle.model.specs.Text.{ascii}
 use Rattle.text.specs.Pieces.{safe-put, unknown-put}
 use borrow.Author.Needs.{needs}
-use Rattle.text.proofs.words.append_verdict.Statement.{statement}
-use Rattle.text.proofs.words.append_verdict.Tie as tie
+use Rattle.text.proofs.appending.append_verdict.Statement.{statement}
+use Rattle.text.proofs.appending.append_verdict.Tie as tie
 
 slice-aggregate-append : tie.Need-slice-aggregate-append
 slice-aggregate-append c = search needs

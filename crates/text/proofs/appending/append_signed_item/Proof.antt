@@ -1,11 +1,11 @@
--- `text::words::append_signed_item` meets its contract: piece after piece.
+-- `text::appending::append_signed_item` meets its contract: piece after piece.
 use borrow.Author.Needs.{needs}
 use mir.Syntax.{w64}
 use mir.ValLaws.{toZ-ofZ}
 use Rattle.model.specs.Text.{ascii}
 use Rattle.text.specs.Appended.{both}
-use Rattle.text.proofs.words.append_signed_item.Statement.{statement}
-use Rattle.text.proofs.words.append_signed_item.Tie as tie
+use Rattle.text.proofs.appending.append_signed_item.Statement.{statement}
+use Rattle.text.proofs.appending.append_signed_item.Tie as tie
 
 slice-aggregate-append : tie.Need-slice-aggregate-append
 slice-aggregate-append c = search needs

@@ -1,10 +1,10 @@
--- `text::words::append_number` meets its contract: the kit's digits are those of `decimal`.
+-- `text::appending::append_number` meets its contract: the kit's digits are those of `decimal`.
 use native.Mathlib.Omega.{arith}
 use borrow.Author.Needs.{needs}
 use Prim.Native.Nat.{_≤_}
 use Rattle.text.specs.Digits.{few-digits, numbered}
-use Rattle.text.proofs.words.append_number.Statement.{statement}
-use Rattle.text.proofs.words.append_number.Tie as tie
+use Rattle.text.proofs.appending.append_number.Statement.{statement}
+use Rattle.text.proofs.appending.append_number.Tie as tie
 
 decimal-requires : tie.Need-decimal-requires
 decimal-requires c κs = search needs
