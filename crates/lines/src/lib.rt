@@ -78,6 +78,6 @@ fn put(out: &mut [u8], line: &[u8]) -> Written
     if out.len() < line.len() {
         return Written::NoRoom;
     }
-    let k = text::words::append(out, 0, line);
+    let k = text::appending::append(out, 0, line);
     Written::Bytes(k)
 }
