@@ -14,7 +14,7 @@ use Rattle.model.specs.Motion.{places}
 use Rattle.model.proofs.WholeForms.{All-places}
 use Rattle.model.proofs.Select.{bar, left, keepAbove, foldedBelow, by-less, low-keeps, low-folds, high-keeps, high-folds, keeps-none}
 use Rattle.model.proofs.Select.{folds-none}
-use Rattle.model.proofs.Level.{level, level-none, level-zero, level-out}
+use Rattle.model.proofs.Level.{level, Bar, level-none, level-zero, level-out, level-falls}
 use Rattle.fold.specs.Chosen.{chosen, chosen-none, chosen-in, chosen-out, chosen-cong}
 use Rattle.fold.specs.Marks.{at, unmarked}
 
@@ -48,6 +48,10 @@ module _ (z : List ℕ) (T : ℕ) where
 -- every size reaches 0
 pub count-all : (z : List ℕ) (n : ℕ) → level (sizeAt z) 0 (places n) ≡ n
 count-all z n = level-zero (sizeAt z) (places n) ∙ length-tab n (λ j. j)
+
+-- what exactly `limit` sizes reach is a bar: no more exceed it
+pub exact-bar : (z : List ℕ) (limit n T : ℕ) → level (sizeAt z) T (places n) ≡ limit → Bar (sizeAt z) limit (places n) T
+exact-bar z limit n T e = record { most = omega (arith, level-falls (sizeAt z) T (places n)); enough = omega arith }
 
 -- ---- the bar while q of size T are still to be kept, as a program compares with it
 pub below-none : (x T q : ℕ) → q ≡ 0 → leb x T ≡ ltb x (bar T q)

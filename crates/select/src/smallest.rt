@@ -75,7 +75,12 @@ fn find_bar(z: &[u64; 860], n: usize, limit: usize, top: u64) -> u64
     let mut high = top;
     while low + 1 < high {
         let middle = low + (high - low) / 2;
-        if limit <= count_from(z, n, middle) {
+        let k = count_from(z, n, middle);
+        // Exactly `limit` reach it, and so no more exceed it.
+        if k == limit {
+            return middle;
+        }
+        if limit <= k {
             low = middle;
         } else {
             high = middle;
