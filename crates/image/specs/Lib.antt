@@ -3,6 +3,7 @@
 --     Summing       a loop that sums
 --     Rounding      rows rounded in place, and the count of inexact roundings
 --     Remainder     S and the new radii
+--     Counting      six counters to which rows are added
 --     Radii         they are the definition's
 --     Padded        the image under the wide step is that under the step
 --     Counted       rounding and counting in wide form are the definition's
@@ -11,6 +12,7 @@ pub mod StepAccepted
 pub mod Summing
 pub mod Rounding
 pub mod Remainder
+pub mod Counting
 pub mod Radii
 pub mod Padded
 pub mod Counted

@@ -2,15 +2,18 @@
 ghost use mathlib.Core.Path.{_≡_};
 ghost use Prim.Native.Nat.{ℕ, _+_, _*_, _≤_, _<_};
 ghost use lib.ListN.{length};
-ghost use Rattle.whole.specs.Round.{round};
+ghost use Rattle.whole.specs.Round.{round, inexact};
 ghost use Rattle.whole.specs.Tab.{tab};
 ghost use Rattle.whole.specs.Write.{write};
 ghost use Rattle.model.specs.Set.{at};
+ghost use Rattle.forms.specs.Tables.{rowOf};
 ghost use Rattle.forms.specs.Numbers.{roundLimit};
 ghost use Rattle.raw.specs.Append.{Bounded};
 ghost use Rattle.image.specs.Rounding.{inexactIn, inexactOf};
+ghost use Rattle.image.specs.Remainder.{Below};
+ghost use Rattle.image.specs.Counting.{grown};
 
-// The same for each coordinate.
+// The inexact roundings at each coordinate of the centre, the terms' rows and the generators.
 pub fn counts(
     w: &[i64],
     rows: usize,
@@ -22,10 +25,9 @@ pub fn counts(
     ensures { λ r. ⌜ r ≡ tab 6 (inexactOf (now (w .entry)) rows (now (centre .entry)) (now (vectors .entry)) generators) ⌝ }
 {
     let mut out = [0u64; 6];
-    for x in 0..6 {
-        let y = count_at(w, rows, centre, vectors, generators, x);
-        out[x] = y;
-    }
+    add_rows(&mut out, centre, 1);
+    add_rows(&mut out, w, rows);
+    add_rows(&mut out, vectors, generators);
     out
 }
 
@@ -41,33 +43,23 @@ pub fn round_first(w: &mut [i64], n: usize)
     }
 }
 
-// The inexact roundings at coordinate i of the first rows.
-fn count_rows(w: &[i64], rows: usize, i: usize) -> u64
-    requires { ⌜ (rows ≤ 860) × (i < 6) × (rows * 6 ≤ length (now w)) ⌝ }
-    ensures { λ r. ⌜ (r ≡ inexactIn (now (w .entry)) rows i) × (r ≤ rows) ⌝ }
+// The inexact roundings of the first rows, added coordinate by coordinate.
+fn add_rows(out: &mut [u64; 6], w: &[i64], rows: usize)
+    requires { ⌜ (rows ≤ 860) × (rows * 6 ≤ length (now w)) × (length (now out) ≡ 6) × Below 1000 (now out) ⌝ }
+    ensures { λ _. ⌜ now (out .exit) ≡ grown (now (out .entry)) (inexactIn (now (w .entry)) rows) ⌝ }
 {
-    let mut sum: u64 = 0;
     for t in 0..rows {
-        let v = w[t * 6 + i];
-        sum += whole::count_inexact(v);
+        add_row(out, w, t);
     }
-    sum
 }
 
-// The inexact roundings at coordinate i of the centre, the terms' rows and the generators.
-fn count_at(
-    w: &[i64],
-    rows: usize,
-    centre: &[i64; 6],
-    vectors: &[i64; 144],
-    generators: usize,
-    i: usize,
-) -> u64
-    requires { ⌜ (rows ≤ 860) × (generators ≤ 24) × (i < 6) × (rows * 6 ≤ length (now w)) ⌝ }
-    ensures { λ r. ⌜ (r ≡ inexactOf (now (w .entry)) rows (now (centre .entry)) (now (vectors .entry)) generators i) × (r ≤ 885) ⌝ }
+// Those of row t.
+fn add_row(out: &mut [u64; 6], w: &[i64], t: usize)
+    requires { ⌜ (t < 860) × (t * 6 + 6 ≤ length (now w)) × (length (now out) ≡ 6) × Below 2000 (now out) ⌝ }
+    ensures { λ _. ⌜ now (out .exit) ≡ grown (now (out .entry)) (λ (x : ℕ). inexact (rowOf (now (w .entry)) t x)) ⌝ }
 {
-    let c = count_rows(centre, 1, i);
-    let t = count_rows(w, rows, i);
-    let g = count_rows(vectors, generators, i);
-    c + t + g
+    for x in 0..6 {
+        let v = w[t * 6 + x];
+        out[x] += whole::count_inexact(v);
+    }
 }
