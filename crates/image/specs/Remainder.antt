@@ -85,6 +85,18 @@ module _ (q : List ℤ) (d r : List ℕ) (hq : Small 32768 q) (hd : Below 104857
   pub cross-small : crossSum q d r i ≤ 3891110078048108544
   cross-small = upto-bound (crossRow q d r i) 648518346341351424 6 (λ j _. cross-row-small j)
 
+-- where D_j and r_j are 0, so is row j
+cell-zero : (q dj dl rj rl : ℕ) → dj ≡ 0 → rj ≡ 0 → cellOf q dj dl rj rl ≤ 0
+cell-zero q dj dl rj rl h k = rw (h, k) (omega arith)
+
+pub cross-row-zero : (q : List ℤ) (d r : List ℕ) (i j : ℕ) → getD d j 0 + getD r j 0 ≡ 0 → crossRow q d r i j ≡ 0
+cross-row-zero q d r i j h =
+    let dj : getD d j 0 ≡ 0 = omega arith in
+    let rj : getD r j 0 ≡ 0 = omega arith in
+    let none : (l : ℕ) → rowCell q d r i j l ≤ 0 =
+    λ l. cell-zero (natAbs (formOf q i j l)) (getD d j 0) (getD d l 0) (getD r j 0) (getD r l 0) dj rj in
+    omega (arith, upto-bound (rowCell q d r i j) 0 6 (λ l _. none l))
+
 module _ (lines : List ℤ) (w : List ℕ) (hl : Small tableLimit lines) (hw : Below 1048576 w) (i : ℕ) where
   pub slope-term-small : (j : ℕ) → natAbs (rowOf lines i j) * getD w j 0 ≤ 432486301715922944
   slope-term-small j = mul-le-mul (hl .small (i * 6 + j)) (hw .below j)

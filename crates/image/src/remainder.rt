@@ -97,15 +97,20 @@ fn cell(q: u64, dj: u64, dl: u64, rj: u64, rl: u64) -> u64
     q * (dj * rl + rj * dl + rj * rl)
 }
 
-// The sum over l, in row j.
+// The sum over l, in row j; where D_j and r_j are 0 every product is.
 fn cross_row(q: &[i32; 216], i: usize, d: &[u64; 6], r: &[u64; 6], j: usize) -> u64
     requires { ⌜ (i < 6) × (j < 6) × Small 32768 (now q) × Below 1048576 (now d) × Below 1048576 (now r) ⌝ }
     ensures { λ s. ⌜ s ≡ crossRow (now (q .entry)) (now (d .entry)) (now (r .entry)) i j ⌝ }
 {
+    let dj = d[j];
+    let rj = r[j];
+    if dj + rj == 0 {
+        return 0;
+    }
     let mut sum: u64 = 0;
     for l in 0..6 {
         let n = whole::size_i32(q[(i * 6 + j) * 6 + l]);
-        sum += cell(n, d[j], d[l], r[j], r[l]);
+        sum += cell(n, dj, d[l], rj, r[l]);
     }
     sum
 }
