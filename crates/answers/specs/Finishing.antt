@@ -84,23 +84,37 @@ weights-under : Under 1000 standardWeights
 weights-under = let four : 4 ≤ 1000 = omega arith in let one : 1 ≤ 1000 = omega arith in
     record { under = each-under 1000 (more four (more one (more four (more one (more four (more one none)))))) }
 
--- the part of N places that is lent for `rows` rows
-abbrev pub lent : ℕ → ℕ → List ℕ
-lent N rows = take (rows - 0) (replicate N 0)
+-- the part of a slice that is lent: its first n places
+abbrev pub part : {A : Type 0} → ℕ → List A → List A
+part n xs = take (n - 0) xs
 
-pub lent-length : (N rows : ℕ) → rows ≤ N → length (lent N rows) ≡ rows
-lent-length N rows h = length-take-le (rows - 0) (replicate N 0) (omega (arith, length-replicate {A = ℕ} N 0)) ∙ omega arith
+pub part-length : {A : Type 0} (n : ℕ) (xs : List A) → n ≤ length xs → length (part n xs) ≡ n
+part-length n xs h = length-take-le (n - 0) xs (omega arith) ∙ omega arith
 
--- what finishing asks, where there is room for N places and M sums
-module _ (N M : ℕ) (u : Unfinished) (e : List ℕ) (c : List ℤ) (rows : ℕ) (g : List ℤ) (generators : ℕ) where
-  pub finish-asks : Finishable u e c rows g generators → rows ≤ N → rows * 6 ≤ M
+-- room for `rows` rows
+pub record Room (rows : ℕ) (places heads : List ℕ) (sums : List ℤ) : Type 0 where
+  pub places-long : rows ≤ length places
+  pub heads-long : rows ≤ length heads
+  pub sums-long : rows * 6 ≤ length sums
+  pub sums-small : Small (2 ^ 40) sums
+
+-- arrays for N rows have it
+pub room : (N rows : ℕ) → rows ≤ N → Room rows (replicate N 0) (replicate N 0) (replicate (N * 6) (pos 0))
+room N rows h =
+    let places : length (replicate {A = ℕ} N 0) ≡ N = length-replicate N 0 in
+    let sums : length (replicate (N * 6) (pos 0)) ≡ N * 6 = length-replicate (N * 6) (pos 0) in
+    record { places-long = omega arith; heads-long = omega arith; sums-long = omega arith; sums-small = zeros-small (N * 6) }
+
+-- what finishing in it asks
+module _ (u : Unfinished) (e : List ℕ) (c : List ℤ) (rows : ℕ) (g : List ℤ) (generators : ℕ) (places heads : List ℕ) (sums : List ℤ) where
+  pub finish-asks : Finishable u e c rows g generators → Room rows places heads sums
       → {termLimit generatorLimit : ℕ} → termLimit ≤ 40 → generatorLimit ≤ 24
-      → Reducible u e c (lent N rows) (lent N rows) (replicate M (pos 0)) g generators termLimit generatorLimit standardWeights
-      × Widened (held u e c (length (lent N rows)) g generators)
-  finish-asks f n m h q =
-      let p = lent-length N rows n in
+      → Reducible u e c (part rows places) (part rows heads) sums g generators termLimit generatorLimit standardWeights
+      × Widened (held u e c (length (part rows places)) g generators)
+  finish-asks f n h q =
+      let p = part-length rows places (n .places-long) in
       let few = f .rows-few in
-      let long : length (replicate M (pos 0)) ≡ M = length-replicate M (pos 0) in (
+      let long = n .sums-long in (
         record {
           rows-few = omega arith;
           exponents-long = rw p (f .exponents-long);
@@ -108,8 +122,8 @@ module _ (N M : ℕ) (u : Unfinished) (e : List ℕ) (c : List ℤ) (rows : ℕ)
           numbers-long = rw p (f .numbers-long);
           numbers-small = f .numbers-small;
           sums-long = omega arith;
-          sums-small = zeros-small M;
-          heads-long = refl;
+          sums-small = n .sums-small;
+          heads-long = part-length rows heads (n .heads-long) ∙ sym p;
           generators-few = f .generators-few;
           generators-long = f .generators-long;
           generators-small = f .generators-small;

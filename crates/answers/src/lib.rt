@@ -1,9 +1,11 @@
-// What a call that changes a set answers: the changed set, or a refusal with the first set as it came.
+// What a call that changes a set answers: the changed set, or a refusal with the first set as it came. Under it, a result finished.
 ghost use mathlib.Core.Path.{_≡_};
 ghost use Rattle.answers.specs.Answer.{settled, isRefused};
 use finish::Finished;
 use zonotope::Examined;
 use zonotope::PolyZonotope;
+
+pub mod finishing;
 
 // That the set was changed, with the changed set, or a refusal, with the first set as it came.
 pub struct Changed {

@@ -7,7 +7,7 @@ use Prim.Native.Nat.{ℕ, _≤_}
 use native.Mathlib.Omega.{arith}
 use borrow.Author.Tests.{ltb-false, le-ltb, eq-eqb, ne-eqb}
 use lib.Dec.{ltb, eqb}
-use lib.ListN.{length, length-map}
+use lib.ListN.{length, replicate, length-replicate, length-map}
 use lib.IntN.{ℤ, natAbs}
 use Rattle.whole.specs.Tab.{any, length-tab}
 use Rattle.whole.specs.Tests.{or-left, or-right}
@@ -28,7 +28,7 @@ use Rattle.answers.specs.declared.Changed.{Changed}
 use Rattle.answers.specs.Answer.{answered, ofResult, isRefused, refused-first}
 use Rattle.answers.specs.Order.{orElse-assoc, neither}
 use Rattle.answers.specs.Accepted.{AcceptedRecord, equal}
-use Rattle.answers.specs.Finishing.{lent, lent-length}
+use Rattle.answers.specs.Finishing.{part, part-length}
 use Rattle.summing.specs.Disturb.{Disturbable}
 use Rattle.bodies.specs.Fields.{radiiLength}
 use Rattle.fields.specs.Refusal.{bodyRefusal}
@@ -125,5 +125,5 @@ module _ (b : List ℕ) (h : RadiiLaid b) where
   pub few-radii : dimension b ≤ 6
   few-radii = ltb-false 6 (dimension b) (or-right (eqb (dimension b) 0) (ltb 6 (dimension b)) (h .right))
 
-  pub radii-room : {n : ℕ} → n ≡ dimension b → length (lent 6 n) ≡ dimension b
-  radii-room {n} e = let few = few-radii in lent-length 6 n (omega arith) ∙ e
+  pub radii-room : {n : ℕ} → n ≡ dimension b → length (part n (replicate {A = ℕ} 6 0)) ≡ dimension b
+  radii-room {n} e = let few = few-radii in part-length n (replicate 6 0) (omega (arith, length-replicate {A = ℕ} 6 0)) ∙ e

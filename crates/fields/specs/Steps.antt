@@ -25,11 +25,11 @@ use Rattle.zonotope.specs.Record.{view}
 use Rattle.zonotope.specs.Answer.{orElse}
 use Rattle.answers.specs.declared.Changed.{Changed}
 use Rattle.answers.specs.Answer.{answered, ofResult}
+use Rattle.answers.specs.Finishing.{part}
 use Rattle.raw.specs.Append.{KeptFrom}
 use Rattle.image.specs.StepAccepted.{stepOf}
 use Rattle.stepping.specs.Work.{workNumbers, workExponents, worked, result-worked}
 use Rattle.stepping.specs.Arguments.{counts-in}
-use Rattle.stepping.specs.Held.{part}
 use Rattle.bodies.specs.Fields.{stepCountsOut, StepBody}
 use Rattle.fields.specs.Refusal.{bodyRefusal, resultOf}
 use Rattle.fields.specs.Layout.{layout, LaidOut, ofNumbers, in-parts}

@@ -4,8 +4,7 @@ use mathlib.Core.List.{List, [], map}
 use Prim.Native.Nat.{ℕ, _+_, _*_, _-_, _<_, _≤_}
 use native.Mathlib.Decide.{decLt}
 use native.Mathlib.Omega.{arith}
-use lib.ListN.{length, getD, take, length-map, List·getD-eq-default}
-use lib.Seq.{length-take-le}
+use lib.ListN.{length, getD, length-map, List·getD-eq-default}
 use lib.IntN.{ℤ, pos, natAbs}
 use Rattle.whole.specs.Round.{round}
 use Rattle.whole.specs.Tab.{tab, length-tab, tab-cong, tab-getD, map-tab, tab-row}
@@ -33,7 +32,7 @@ use Rattle.finish.specs.Held.{held, finishedAs}
 use Rattle.finish.specs.Wide.{wide, wideVector}
 use Rattle.finish.specs.WideFinish.{Narrow}
 use Rattle.answers.specs.Accepted.{AcceptedRecord, ready}
-use Rattle.answers.specs.Finishing.{Finishable, finished-held}
+use Rattle.answers.specs.Finishing.{Finishable, part, part-length, finished-held}
 use Rattle.stepping.specs.Work.{workNumbers, workExponents}
 
 -- the image without its terms and generators
@@ -55,10 +54,6 @@ for-image a = record {
   narrow = a .passed .narrow;
 }
 
--- the part of a slice that is lent: its first n places
-abbrev pub part : {A : Type 0} → ℕ → List A → List A
-part n xs = take (n - 0) xs
-
 -- ---- rows in the parts that hold them
 rows-part : (e : List ℕ) (w : List ℤ) (n : ℕ) → rowsOf (part (n * 12) e) (part (n * 6) w) n ≡ rowsOf e w n
 unfolding rowsOf
@@ -74,7 +69,7 @@ part-small K n w fits b = record { small = λ i. go i (decLt i n) }
     go : (i : ℕ) → Dec (i < n) → natAbs (at (part n w) i) ≤ K
     go i (yes l) = rw (getD-take (n - 0) w i (pos 0) (omega arith)) (b .bounded i l)
     go i (no l) =
-        rw (List·getD-eq-default (part n w) (pos 0) {n = i} (omega (arith, length-take-le (n - 0) w (omega arith)))) (omega arith)
+        rw (List·getD-eq-default (part n w) (pos 0) {n = i} (omega (arith, part-length n w fits))) (omega arith)
 
 -- ---- generators in rows of six
 vector-rows : (gs : List (List ℤ)) → length gs ≤ 24 → tab (length gs) (numberRow (wideVectors gs)) ≡ map wideVector gs
@@ -130,8 +125,8 @@ module _ (p : Step) (s : PolyZonotope) (a : AcceptedRecord s) (ok : StepAccepted
     pub image-finishable : Finishable (unfinishedImage p s r) (part (rows * 12) e) (part (rows * 6) w) rows (r .generators) (s .generators)
     image-finishable =
         let inside = d .inside in
-        let exponents : length (part (rows * 12) e) ≡ rows * 12 - 0 = length-take-le (rows * 12 - 0) e (omega arith) in
-        let numbers : length (part (rows * 6) w) ≡ rows * 6 - 0 = length-take-le (rows * 6 - 0) w (omega arith) in
+        let exponents : length (part (rows * 12) e) ≡ rows * 12 = part-length (rows * 12) e (omega arith) in
+        let numbers : length (part (rows * 6) w) ≡ rows * 6 = part-length (rows * 6) w (omega arith) in
         let vectors : length (r .generators) ≡ 144 = ap length (d .generators) ∙ length-tab 144 _ in
         record {
           rows-few = inside;

@@ -6,13 +6,11 @@ ghost use lib.IntN.{pos};
 ghost use lib.ListN.{length};
 ghost use Rattle.model.specs.Limits.{standardWeights};
 ghost use Rattle.model.specs.Step.{step};
-ghost use Rattle.model.specs.Finish.{finish};
 ghost use Rattle.zonotope.specs.Record.{view};
 ghost use Rattle.raw.specs.Append.{KeptFrom};
 ghost use Rattle.image.specs.StepAccepted.{StepAccepted, stepOf};
-ghost use Rattle.finish.specs.Held.{held, finishedAs};
+ghost use Rattle.finish.specs.Held.{finishedAs};
 ghost use Rattle.answers.specs.Accepted.{AcceptedRecord};
-ghost use Rattle.answers.specs.Finishing.{Finishable};
 ghost use Rattle.stepping.specs.Work.{workNumbers, workExponents};
 use finish::Finished;
 use finish::Unfinished;
@@ -56,44 +54,14 @@ pub fn image_finished(
         radii,
     };
     let mut g = image.generators;
-    finish_rows(
+    answers::finishing::finish_rows(
         u,
         &e[0..rows * 12],
         &w[0..rows * 6],
         rows,
         &mut g,
         s.generators,
-    )
-}
-
-// The result with the rows of e and c as its terms and the first rows of g as its generators, finished.
-fn finish_rows(
-    u: Unfinished,
-    e: &[u8],
-    c: &[i64],
-    rows: usize,
-    g: &mut [i64],
-    generators: usize,
-) -> Finished
-    requires { ⌜ Finishable u (now e) (now c) rows (now g) generators ⌝ }
-    ensures { λ r. ⌜ r ≡ finishedAs (finish standardWeights 40 24
-        (held u (now (e .entry)) (now (c .entry)) rows (now (g .entry)) generators)) ⌝ }
-{
-    let mut places = [0u16; 860];
-    let mut heads = [0u16; 860];
-    let mut sums = [0i64; 5160];
-    let weights = [4u64, 1, 4, 1, 4, 1];
-    finish::finish(
-        u,
-        e,
-        c,
-        &mut places[0..rows],
-        &mut heads[0..rows],
-        &mut sums,
-        g,
-        generators,
         zonotope::MAX_TERMS,
         zonotope::MAX_GENERATORS,
-        weights,
     )
 }

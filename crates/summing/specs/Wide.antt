@@ -124,9 +124,6 @@ module _ (s : PolyZonotope) (a : AcceptedRecord s) where
   finite-radii = subst (λ (q : PolyZonotope). Under (2 ^ 40) (q .radii)) (own-record s a)
       (under-in 6 (λ i. getD (view s .radii) i 0) (λ i l. omega (arith, radii-small s (for-sum s a) i)))
 
-  pub terms-few : s .terms ≤ 80
-  terms-few = let few = counts s (for-sum s a) in omega arith
-
   -- what finishing the record's rows asks
   pub finishable : Finishable (unfinishedOf s) (s .exponents) (s .coefficients) (s .terms) (s .vectors) (s .generators)
   finishable =

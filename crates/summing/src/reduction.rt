@@ -11,7 +11,6 @@ ghost use Rattle.finish.specs.Held.{finishedAs};
 ghost use Rattle.answers.specs.Answer.{answered, ofResult};
 ghost use Rattle.answers.specs.Accepted.{AcceptedRecord};
 ghost use Rattle.summing.specs.Wide.{unfinishedOf};
-use crate::finishing;
 use answers::Changed;
 use finish::Finished;
 use finish::Unfinished;
@@ -38,7 +37,7 @@ fn finished(s: PolyZonotope, term_limit: usize, generator_limit: usize) -> Finis
     widen_numbers(&s.coefficients, &mut c);
     let mut g = [0i64; 144];
     widen_numbers(&s.vectors, &mut g);
-    finishing::finish_rows(
+    answers::finishing::finish_rows(
         u,
         &e,
         &c,

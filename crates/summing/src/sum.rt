@@ -1,6 +1,5 @@
 // Sums of two examined sets: their rows over common factors, finished.
 ghost use mathlib.Core.Path.{_≡_};
-ghost use Prim.Native.Nat.{_≤_};
 ghost use lib.Dec.{ltb};
 ghost use lib.ListN.{getD};
 ghost use Rattle.whole.specs.Tab.{tab};
@@ -15,7 +14,6 @@ ghost use Rattle.answers.specs.Answer.{answered, ofResult};
 ghost use Rattle.answers.specs.Finishing.{Finishable};
 ghost use Rattle.summing.specs.Summable.{Summable, Next, ofFactors};
 ghost use Rattle.summing.specs.Summed.{unfinishedSum};
-use crate::finishing;
 use align::Identifiers;
 use align::Sum;
 use answers::Changed;
@@ -97,8 +95,7 @@ fn finish_sum(
     c: &[i64],
     g: &mut [i64],
 ) -> Finished
-    requires { ⌜ Finishable (unfinishedSum dimension all sum) (now e) (now c) (sum .terms) (now g) (sum .generators)
-        × (sum .terms ≤ 80) ⌝ }
+    requires { ⌜ Finishable (unfinishedSum dimension all sum) (now e) (now c) (sum .terms) (now g) (sum .generators) ⌝ }
     ensures { λ r. ⌜ r ≡ finishedAs (finish standardWeights 40 24
         (held (unfinishedSum dimension all sum) (now (e .entry)) (now (c .entry)) (sum .terms) (now (g .entry)) (sum .generators))) ⌝ }
 {
@@ -112,7 +109,7 @@ fn finish_sum(
         centre,
         radii,
     };
-    finishing::finish_rows(
+    answers::finishing::finish_rows(
         u,
         e,
         c,

@@ -45,8 +45,10 @@ finish-rows-requires : tie.Need-finish-rows-requires
 finish-rows-requires c κs =
     let o = c .before .before .before .before .before .before .before .before .before .before .before .before in
     let s = o .before .before .before .before in
+    let rows =
     image-finishable (asked s) (s .args .s) (s .pre .0) (s .pre .1) (o .of-step .ensures)
-    (omega (arith, o .of-step .kept, s .pre .3)) (omega (arith, o .of-step .kept, s .pre .2))
+    (omega (arith, o .of-step .kept, s .pre .3)) (omega (arith, o .of-step .kept, s .pre .2)) in
+    (rows, omega arith, omega arith)
 
 same-length : tie.Need-same-length
 same-length c = search needs

@@ -1,5 +1,5 @@
 -- `reduction::finished` meets its contract.
-use Rattle.summing.specs.Wide.{terms-few, finishable-parts, finished-parts}
+use Rattle.summing.specs.Wide.{finishable-parts, finished-parts}
 use borrow.Author.Needs.{needs}
 use Rattle.summing.proofs.reduction.finished.Statement.{statement}
 use Rattle.summing.proofs.reduction.finished.Tie as tie
@@ -35,7 +35,6 @@ finish-rows-requires c κs =
     let u = w .before .before .before .before .before .before in
     let s = u .before in (
       finishable-parts (s .args .t1) (s .pre .0) (u .unfinished .ensures) (w .widen-numbers .ensures) (v .widen-numbers2 .ensures),
-      terms-few (s .args .t1) (s .pre .0),
       s .pre .1,
       s .pre .2,
     )

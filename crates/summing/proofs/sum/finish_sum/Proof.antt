@@ -9,8 +9,7 @@ first-twelve-requires c κs = search needs
 
 finish-rows-requires : tie.Need-finish-rows-requires
 finish-rows-requires c κs = let s = c .before .before .before .before .before .before .before in (
-  rw (c .before .before .before .first-twelve .ensures) (s .pre .0),
-  s .pre .1,
+  rw (c .before .before .before .first-twelve .ensures) (s .pre),
   omega arith,
   omega arith,
 )

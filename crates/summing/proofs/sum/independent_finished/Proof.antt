@@ -33,11 +33,9 @@ slice-aggregate-finish-sum-3 c = search needs
 finish-sum-requires : tie.Need-finish-sum-requires
 finish-sum-requires c κs =
     let t = c .before .before .before .before .before .before in
-    let s = t .before .before .before .before in (
-      joined-finishable _ (s .pre .0 .first) _ (independent-shaped _ _ (s .pre .0) (s .args .next)) _ _ (t .independent .ensures)
-          (omega arith) (omega arith) (omega arith),
-      t .independent .ensures .terms .few,
-    )
+    let s = t .before .before .before .before in
+    joined-finishable _ (s .pre .0 .first) _ (independent-shaped _ _ (s .pre .0) (s .args .next)) _ _ (t .independent .ensures)
+    (omega arith) (omega arith) (omega arith)
 
 returns : tie.Need-returns
 unfolding independentSum

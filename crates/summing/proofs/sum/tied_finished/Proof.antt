@@ -32,11 +32,8 @@ slice-aggregate-finish-sum-3 c = search needs
 finish-sum-requires : tie.Need-finish-sum-requires
 finish-sum-requires c κs =
     let t = c .before .before .before .before .before .before in
-    let s = t .before .before .before .before in (
-      joined-finishable _ (s .pre .0 .first) _ (tied-shaped _ _ (s .pre .0)) _ _ (t .tied .ensures) (omega arith) (omega arith)
-          (omega arith),
-      t .tied .ensures .terms .few,
-    )
+    let s = t .before .before .before .before in
+    joined-finishable _ (s .pre .0 .first) _ (tied-shaped _ _ (s .pre .0)) _ _ (t .tied .ensures) (omega arith) (omega arith) (omega arith)
 
 returns : tie.Need-returns
 returns c =
