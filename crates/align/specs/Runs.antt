@@ -2,11 +2,11 @@
 use mathlib.Core.Path.{_≡_, sym, _∙_, ap, ap₂}
 use mathlib.Core.List.{List, _∷_, _++_}
 use Prim.Native.Nat.{ℕ, zero, suc, _+_, _*_, _/_, _%_, _<_, _≤_}
-use native.Mathlib.Nat.{zero-add, suc-add, add-zero, add-suc, add-mul, suc-mul, mul-le-mul-right}
+use native.Mathlib.Nat.{zero-add, suc-add, add-mul, suc-mul, mul-le-mul-right}
 use native.Mathlib.Omega.{arith}
-use lib.ListN.{length, getD, set}
+use lib.ListN.{length, getD}
 use Rattle.whole.specs.Tab.{tab, tab-cong}
-use Rattle.whole.specs.Write.{write, write-length, write-at, write-before, write-after, write-again}
+use Rattle.whole.specs.Write.{write, write-length, write-at, write-before, write-after, write-on}
 
 -- rows of w, one after the other
 abbrev pub flat : {A : Type 0} → ℕ → (ℕ → ℕ → A) → ℕ → A
@@ -21,24 +21,11 @@ module _ {A : Type 0} where
       rw (suc-add n m)
       (ap (f 0 ∷_) (tab-++ n m (λ i. f (suc i)) ∙ ap (tab n (λ i. f (suc i)) ++_) (tab-cong m _ _ (λ i l. ap f (sym (suc-add n i))))))
 
-  -- one more place of a list that is written from its start, and what its first n places then hold
-  pub write-next : (ws : List A) (f : ℕ → A) (w : List A) (k : ℕ) (v : A) → w ≡ write ws 0 f k → v ≡ f k
-      → set w k v ≡ write ws 0 f (k + 1)
-  write-next ws f w k v p q = ap (λ x. set w x v) (sym (zero-add k)) ∙ write-again ws 0 f w k v p q
-
+  -- what the first n places of a list that is written from its start hold
   pub first-written : (ws : List A) (f : ℕ → A) (d : A) (n : ℕ) → n ≤ length ws → tab n (λ i. getD (write ws 0 f n) i d) ≡ tab n f
   first-written ws f d n h =
       tab-cong n (λ i. getD (write ws 0 f n) i d) f
       (λ i l. ap (λ x. getD (write ws 0 f n) x d) (sym (zero-add i)) ∙ write-at ws 0 f d n i l (omega arith))
-
-  -- a run that follows another continues it
-  pub write-on : (ws : List A) (at n : ℕ) (f g : ℕ → A) (m : ℕ) → ((k : ℕ) → k < m → g k ≡ f (n + k))
-      → write (write ws at f n) (at + n) g m ≡ write ws at f (n + m)
-  unfolding write
-  write-on ws at n f g zero h = rw (add-zero n)
-  write-on ws at n f g (suc m) h =
-      let e : at + n + m ≡ at + (n + m) = omega arith in
-      rw (add-suc n m, write-on ws at n f g m (λ k l. h k (omega arith)), h m (omega arith), e)
 
   -- a row of 12 that follows others
   pub flat-at : (f : ℕ → ℕ → A) (t k : ℕ) → k < 12 → flat 12 f (t * 12 + k) ≡ f t k

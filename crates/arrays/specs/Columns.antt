@@ -4,11 +4,9 @@ use mathlib.Core.List.{List}
 use Prim.Native.Nat.{ℕ, _+_, _<_, _≤_}
 use native.Mathlib.Decide.{decLt}
 use native.Mathlib.Omega.{arith}
-use native.Mathlib.Nat.{zero-add}
-use lib.ListN.{getD, set}
+use lib.ListN.{getD}
 use Rattle.whole.specs.Sum.{uptoBy, upto-suc}
 use Rattle.whole.specs.Tab.{tab, getD-tab, getD-tab-past, tab-cong}
-use Rattle.whole.specs.Write.{write, write-again}
 
 -- F t i added up over the first rows t, for each of n columns i
 abbrev pub columns : {M : Type 0} → M → (M → M → M) → (ℕ → ℕ → M) → ℕ → ℕ → List M
@@ -21,11 +19,6 @@ module _ {M : Type 0} (z : M) (add : M → M → M) (F : ℕ → ℕ → M) (n t
   columns-again sums r p q =
       q ∙ tab-cong n _ _ (λ i l. ap (λ x. add x (F t i)) (ap (λ (s : List M). getD s i z) p ∙ getD-tab n _ z i l)
       ∙ sym (upto-suc z add (λ t. F t i) t))
-
--- the next place of a list that is written from its start
-pub write-next : {A : Type 0} (ws : List A) (f : ℕ → A) (w : List A) (k : ℕ) (v : A) → w ≡ write ws 0 f k → v ≡ f k
-    → set w k v ≡ write ws 0 f (k + 1)
-write-next ws f w k v p q = ap (λ x. set w x v) (sym (zero-add k)) ∙ write-again ws 0 f w k v p q
 
 -- a table none of whose numbers exceeds b
 pub tab-under : (n : ℕ) (f : ℕ → ℕ) (b : ℕ) → ((i : ℕ) → i < n → f i ≤ b) → (i : ℕ) → getD (tab n f) i 0 ≤ b

@@ -1,15 +1,14 @@
 -- Each raw number of a step as one dot product: with the line of a coordinate, or with (Q + Qᵀ)h.
 use mathlib.Core.Path.{_≡_, sym, _∙_, ap, ap₂}
-use Prim.Native.Nat.{ℕ, _≤_}
+use Prim.Native.Nat.{ℕ}
 use native.Mathlib.Omega.{arith}
 use lib.Dec.{lit<}
-use lib.IntN.{ℤ, pos, natAbs, _+ℤ_, _*ℤ_}
+use lib.IntN.{ℤ, pos, _+ℤ_, _*ℤ_}
 use Rattle.whole.specs.AsNaturals.{as-ℕ}
-use Rattle.whole.specs.Size.{abs-add, abs-mul}
 use Rattle.whole.specs.Floor.{floor-unique}
 use Rattle.whole.specs.Half.{half}
 use Rattle.model.specs.Step.{dot, bilinear}
-use Rattle.forms.specs.Dot.{Vector, Form, dot-add, dot-right, dot-comm, add-dot, scale-dot, bilinear-swap, dot-small}
+use Rattle.forms.specs.Dot.{Vector, Form, dot-add, dot-right, dot-comm, add-dot, scale-dot, bilinear-swap}
 
 -- (Q + Qᵀ)v
 unfoldable pub turned : ℕ → Form → Vector → Vector
@@ -59,14 +58,3 @@ centre-half n a q k =
   where
     twice : (x y : ℤ) → x +ℤ (y +ℤ y) +ℤ x ≡ (x +ℤ y) +ℤ (x +ℤ y)
     twice x y = simp as-ℕ (omega arith)
-
--- ---- sizes at six coordinates, of entries up to 2^15 and numbers up to 2^20
-module _ (q : Form) (v : Vector) (hq : (j l : ℕ) → natAbs (q j l) ≤ 32768) (hv : (j : ℕ) → natAbs (v j) ≤ 1048576) where
-  pub turned-small : (j : ℕ) → natAbs (turned 6 q v j) ≤ 412316860416
-  unfolding turned
-  turned-small j =
-      dot-small (λ l. q j l +ℤ q l j) v 65536 1048576 (λ l. omega (arith, abs-add (q j l) (q l j), hq j l, hq l j)) hv 6
-
-  pub line-small : (a : Vector) → ((j : ℕ) → natAbs (a j) ≤ 32768) → (j : ℕ) → natAbs (line 6 a q v j) ≤ 412451078144
-  unfolding line
-  line-small a ha j = omega (arith, abs-add (pos 4096 *ℤ a j) (turned 6 q v j), abs-mul (pos 4096) (a j), ha j, turned-small j)

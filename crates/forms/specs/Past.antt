@@ -21,13 +21,13 @@ module _ (p : Step) (shaped : StepShaped p) (i : ℕ) (past : p .rows ≤ i) whe
   constant-none : at (p .constant) i ≡ pos 0
   constant-none = let c = shaped .constants in List·getD-eq-default (p .constant) (pos 0) {n = i} (omega arith)
 
-  linear-none : (j : ℕ) → linearAt p i j ≡ pos 0
+  pub linear-none : (j : ℕ) → linearAt p i j ≡ pos 0
   linear-none j =
       let c = shaped .linears in
       let b : p .rows * width ≤ i * width = mul-le-mul-right width past in
       List·getD-eq-default (p .linear) (pos 0) {n = i * width + j} (omega arith)
 
-  quadratic-none : (j l : ℕ) → quadraticAt p i j l ≡ pos 0
+  pub quadratic-none : (j l : ℕ) → quadraticAt p i j l ≡ pos 0
   quadratic-none j l =
       let c = shaped .quadratics in
       let b : p .rows * width ≤ i * width = mul-le-mul-right width past in

@@ -1,15 +1,16 @@
 // Linear and quadratic forms on rows of six. A step's entries are brought to rows of six once, with 0 where it has none, so that every loop
 // is six long.
 ghost use mathlib.Core.Path.{_≡_};
-ghost use Prim.Native.Nat.{_+_, _*_, _≤_, _<_};
-ghost use lib.IntN.{_+ℤ_};
+ghost use Prim.Native.Nat.{ℕ, _+_, _*_, _/_, _%_, _≤_, _<_};
+ghost use lib.IntN.{pos, _+ℤ_, _*ℤ_};
 ghost use lib.ListN.{length};
+ghost use Rattle.whole.specs.Write.{write};
 ghost use Rattle.rows.specs.Rows.{Small};
 ghost use Rattle.model.specs.Set.{at};
 ghost use Rattle.model.specs.Step.{dot};
-ghost use Rattle.forms.specs.Line.{turned, line};
 ghost use Rattle.forms.specs.Tables.{rowOf, formOf};
-ghost use Rattle.forms.specs.Numbers.{tableLimit, lineTable, columnTable};
+ghost use Rattle.forms.specs.Numbers.{bothLimit, tableLimit, bothTable, lineTable, columnTable};
+ghost use Rattle.forms.specs.RowsTo.{RowsTo};
 ghost use Rattle.forms.specs.Wide.{entry, formEntry, wideConstant, wideLinear, wideQuadratic};
 
 // ---- a step's entries in rows of six
@@ -44,11 +45,21 @@ pub fn wide_quadratic(q: &[i32], n: usize) -> [i32; 216]
     ensures { λ r. ⌜ r ≡ wideQuadratic n (now (q .entry)) ⌝ }
 {
     let mut out = [0i32; 216];
-    for x in 0..216 {
-        let v = form_entry_at(q, n, x / 36, x / 6 % 6, x % 6);
-        out[x] = v;
+    for x in 0..36 {
+        wide_row(&mut out, x, q, n);
     }
     out
+}
+
+// Row x of the forms.
+fn wide_row(out: &mut [i32; 216], x: usize, q: &[i32], n: usize)
+    requires { ⌜ (n ≤ 6) × (x < 36) ⌝ }
+    ensures { λ _. ⌜ now (out .exit) ≡ write (now (out .entry)) (x * 6) (λ (l : ℕ). formEntry (now (q .entry)) n (x / 6) (x % 6) l) 6 ⌝ }
+{
+    for l in 0..6 {
+        let v = form_entry_at(q, n, x / 6, x % 6, l);
+        out[x * 6 + l] = v;
+    }
 }
 
 // The number at place i, 0 past the end.
@@ -108,8 +119,32 @@ pub fn dot_linear(a: &[i32; 36], i: usize, k: &[i32; 6]) -> i64
     sum
 }
 
+// ---- what a step's raw numbers are made from
+// Q + Qᵀ of each form.
+pub fn both_ways(q: &[i32; 216]) -> [i64; 216]
+    ensures { λ r. ⌜ r ≡ bothTable (now (q .entry)) ⌝ }
+{
+    let mut out = [0i64; 216];
+    for x in 0..36 {
+        both_row(&mut out, q, x / 6, x % 6);
+    }
+    out
+}
+
+// Row j of Q + Qᵀ, with form i of Q.
+fn both_row(out: &mut [i64; 216], q: &[i32; 216], i: usize, j: usize)
+    requires { ⌜ (i < 6) × (j < 6) ⌝ }
+    ensures { λ _. ⌜ now (out .exit)
+        ≡ write (now (out .entry)) ((i * 6 + j) * 6) (λ (l : ℕ). formOf (now (q .entry)) i j l +ℤ formOf (now (q .entry)) i l j) 6 ⌝ }
+{
+    for l in 0..6 {
+        let v = both_at(q, i, j, l);
+        out[(i * 6 + j) * 6 + l] = v;
+    }
+}
+
 // Q_jl + Q_lj of form i.
-fn both_ways(q: &[i32; 216], i: usize, j: usize, l: usize) -> i64
+fn both_at(q: &[i32; 216], i: usize, j: usize, l: usize) -> i64
     requires { ⌜ (i < 6) × (j < 6) × (l < 6) ⌝ }
     ensures { λ r. ⌜ r ≡ formOf (now (q .entry)) i j l +ℤ formOf (now (q .entry)) i l j ⌝ }
 {
@@ -118,53 +153,37 @@ fn both_ways(q: &[i32; 216], i: usize, j: usize, l: usize) -> i64
     whole::add(x, y)
 }
 
-// Place j of (Q + Qᵀ)v, with form i of Q and row t of v.
-fn turned_at(q: &[i32; 216], i: usize, v: &[i32], t: usize, j: usize) -> i64
-    requires { ⌜ (i < 6) × (j < 6) × (t ≤ 100) × (t * 6 + 6 ≤ length (now v)) × Small 32768 (now q) × Small 1048576 (now v) ⌝ }
-    ensures { λ r. ⌜ r ≡ turned 6 (formOf (now (q .entry)) i) (rowOf (now (v .entry)) t) j ⌝ }
-{
-    let mut sum: i64 = 0;
-    for l in 0..6 {
-        let x = both_ways(q, i, j, l);
-        let y = whole::widen(v[t * 6 + l]);
-        sum = whole::multiply_add(sum, x, y);
-    }
-    sum
-}
-
-// ---- what a step's raw numbers are made from
-// The line of each coordinate, in row i.
-pub fn lines(a: &[i32; 36], q: &[i32; 216], k: &[i32; 6]) -> [i64; 36]
-    requires { ⌜ Small 32768 (now a) × Small 32768 (now q) × Small 1048576 (now k) ⌝ }
-    ensures { λ r. ⌜ r ≡ lineTable (now (a .entry)) (now (q .entry)) (now (k .entry)) ⌝ }
+// The line of each coordinate, in row i: 4096·A_j + sum over l of (Q_jl + Q_lj)·k_l.
+pub fn lines(a: &[i32; 36], both: &[i64; 216], k: &[i32; 6]) -> [i64; 36]
+    requires { ⌜ Small 32768 (now a) × Small bothLimit (now both) × Small 1048576 (now k) ⌝ }
+    ensures { λ r. ⌜ r ≡ lineTable (now (a .entry)) (now (both .entry)) (now (k .entry)) ⌝ }
 {
     let mut out = [0i64; 36];
     for x in 0..36 {
-        let v = line_at(a, q, k, x / 6, x % 6);
+        let v = line_at(a, both, k, x);
         out[x] = v;
     }
     out
 }
 
-// (Q + Qᵀ)v for each coordinate i and each row t of v, in row 40·i + t.
-pub fn columns(q: &[i32; 216], v: &[i32; 240]) -> [i64; 1440]
-    requires { ⌜ Small 32768 (now q) × Small 1048576 (now v) ⌝ }
-    ensures { λ r. ⌜ r ≡ columnTable (now (q .entry)) (now (v .entry)) ⌝ }
+// Place x of the lines.
+fn line_at(a: &[i32; 36], both: &[i64; 216], k: &[i32; 6], x: usize) -> i64
+    requires { ⌜ (x < 36) × Small 32768 (now a) × Small bothLimit (now both) × Small 1048576 (now k) ⌝ }
+    ensures { λ r. ⌜ r ≡ dot 6 (rowOf (now (k .entry)) 0) (rowOf (now (both .entry)) x) +ℤ pos 4096 *ℤ at (now (a .entry)) x ⌝ }
 {
-    let mut out = [0i64; 1440];
-    for x in 0..1440 {
-        let y = turned_at(q, x / 240, v, x / 6 % 40, x % 6);
-        out[x] = y;
-    }
-    out
+    let y = dot_rows(k, 0, both, x);
+    let z = whole::widen(a[x]);
+    whole::multiply_add(y, 4096, z)
 }
 
-// Place j of the line of coordinate i: 4096·A_j + sum over l of (Q_jl + Q_lj)·k_l.
-fn line_at(a: &[i32; 36], q: &[i32; 216], k: &[i32; 6], i: usize, j: usize) -> i64
-    requires { ⌜ (i < 6) × (j < 6) × Small 32768 (now a) × Small 32768 (now q) × Small 1048576 (now k) ⌝ }
-    ensures { λ r. ⌜ r ≡ line 6 (rowOf (now (a .entry)) i) (formOf (now (q .entry)) i) (rowOf (now (k .entry)) 0) j ⌝ }
+// (Q + Qᵀ)v for each coordinate and row t of v, in row i. Only the first m coordinates have forms; the rows of the others stay 0.
+pub fn column(out: &mut [i64], both: &[i64; 216], v: &[i32], t: usize, m: usize)
+    requires { ⌜ (m ≤ 6) × (t ≤ 100) × (t * 6 + 6 ≤ length (now v)) × Small bothLimit (now both) × Small 1048576 (now v)
+        × RowsTo (m * 6) (now both) × RowsTo m (now out) × (length (now out) ≡ 36) ⌝ }
+    ensures { λ _. ⌜ now (out .exit) ≡ columnTable (now (both .entry)) (now (v .entry)) t ⌝ }
 {
-    let x = whole::widen(a[i * 6 + j]);
-    let y = turned_at(q, i, k, 0, j);
-    whole::multiply_add(y, 4096, x)
+    for x in 0..m * 6 {
+        let y = dot_rows(v, t, both, x);
+        out[x] = y;
+    }
 }

@@ -14,7 +14,7 @@ use Rattle.model.specs.Step.{Step, raw, rawCentre, rawLinear, remainder, inexac
 use Rattle.zonotope.specs.Record.{view}
 use Rattle.zonotope.specs.declared.PolyZonotope.{PolyZonotope}
 use Rattle.forms.specs.Tables.{tab-small}
-use Rattle.forms.specs.Numbers.{six, roundLimit}
+use Rattle.forms.specs.Numbers.{six, bothTable, lineTable, roundLimit}
 use Rattle.forms.specs.Wide.{wide, StepShaped}
 use Rattle.raw.specs.Accepted.{InSpan}
 use Rattle.raw.specs.Unused.{generatorAt, counts-in, same-row}
@@ -58,14 +58,15 @@ rounded-all-small N v w h e =
     rw e (tab-small imageLimit N (λ x. round (at v x)) (λ x l. omega (arith, round-small (at v x) (h .small x))))
 
 -- ---- the stages, on six coordinates
-module _ (c a q : List ℤ) (s : PolyZonotope) (ok : InSpan s) (e₀ e : List ℕ) (w₀ w w′ : List ℤ) (r : ℕ)
-    (raw-terms : RawTerms a q s e₀ w₀ r e w) (long : r * 6 ≤ length w) (rounded-terms : w′ ≡ write w 0 (λ x. round (at w x)) (r * 6))
-    (centre centre′ : List ℤ) (raw-centre : RawCentre c a q s centre)
+module _ (c a q lines both : List ℤ) (s : PolyZonotope) (ok : InSpan s) (eb : both ≡ bothTable q)
+    (el : lines ≡ lineTable a (bothTable q) (s .centre)) (e₀ e : List ℕ) (w₀ w w′ : List ℤ) (r : ℕ)
+    (raw-terms : RawTerms lines both s e₀ w₀ r e w) (long : r * 6 ≤ length w) (rounded-terms : w′ ≡ write w 0 (λ x. round (at w x)) (r * 6))
+    (centre centre′ : List ℤ) (raw-centre : RawCentre c a lines s centre)
     (rounded-centre : centre′ ≡ write centre 0 (λ x. round (at centre x)) 6)
-    (vectors vectors′ : List ℤ) (raw-vectors : RawGenerators a q s vectors)
+    (vectors vectors′ : List ℤ) (raw-vectors : RawGenerators lines s vectors)
     (rounded-vectors : vectors′ ≡ write vectors 0 (λ x. round (at vectors x)) 144)
     (counts radii : List ℕ) (counting : counts ≡ tab 6 (inexactOf w r centre vectors (s .generators)))
-    (new-radii : NewRadii a q s counts radii) where
+    (new-radii : NewRadii lines q s counts radii) where
   abbrev P : Step
   P = six c a q
 
@@ -74,24 +75,24 @@ module _ (c a q : List ℤ) (s : PolyZonotope) (ok : InSpan s) (e₀ e : List �
 
   centre-is : centre ≡ z .centre
   unfolding raw
-  centre-is = raw-centre .numbers
+  centre-is = raw-centre .numbers q el
 
   centre-wide : centre ≡ tab 6 (at (z .centre))
   unfolding raw
-  centre-wide = raw-centre .numbers ∙ tab-cong 6 (rawCentre P (view s)) _ (λ i h. sym (getD-tab 6 (rawCentre P (view s)) (pos 0) i h))
+  centre-wide = raw-centre .numbers q el ∙ tab-cong 6 (rawCentre P (view s)) _ (λ i h. sym (getD-tab 6 (rawCentre P (view s)) (pos 0) i h))
 
   centre-rounded : centre′ ≡ tab 6 (λ x. round (at centre x))
-  centre-rounded = rounded-all 6 centre centre′ (ap length (raw-centre .numbers) ∙ length-tab 6 (rawCentre P (view s))) rounded-centre
+  centre-rounded = rounded-all 6 centre centre′ (ap length (raw-centre .numbers q el) ∙ length-tab 6 (rawCentre P (view s))) rounded-centre
 
   vectors-rounded : vectors′ ≡ tab 144 (λ x. round (at vectors x))
-  vectors-rounded = rounded-all 144 vectors vectors′ (ap length (raw-vectors .numbers c) ∙ length-tab 144 _) rounded-vectors
+  vectors-rounded = rounded-all 144 vectors vectors′ (ap length (raw-vectors .numbers c a q el) ∙ length-tab 144 _) rounded-vectors
 
   count-at : (i : ℕ) → i < 6 → getD counts i 0 ≡ inexactAt z i
   count-at i h =
       ap (λ (ns : List ℕ). getD ns i 0) counting
       ∙ getD-tab 6 (inexactOf w r centre vectors (s .generators)) 0 i h
-      ∙ counted z e w centre vectors r (s .generators) long (images-length P s) (counts-in s ok .3) (raw-terms .rows c) centre-wide
-      (raw-vectors .numbers c) i h
+      ∙ counted z e w centre vectors r (s .generators) long (images-length P s) (counts-in s ok .3) (raw-terms .rows c a q eb el) centre-wide
+      (raw-vectors .numbers c a q el) i h
 
   radius-at : (i : ℕ) → i < 6 → roundedUp (remainder P (view s) i) (getD counts i 0) ≡ getD (tab 6 (roundedRadius z)) i 0
   unfolding roundedRadius raw
@@ -105,14 +106,14 @@ module _ (c a q : List ℤ) (s : PolyZonotope) (ok : InSpan s) (e₀ e : List �
     terms =
         ap (λ (v : List ℤ). rowsOf e v r) rounded-terms
         ∙ rounded-rows e w r long
-        ∙ ap (map roundTerm) (raw-terms .rows c)
+        ∙ ap (map roundTerm) (raw-terms .rows c a q eb el)
         ∙ round-terms (z .terms);
     centre = centre-rounded ∙ ap (λ (v : List ℤ). tab 6 (λ x. round (at v x))) centre-is ∙ round-vector (z .centre);
     generators =
         vectors-rounded
-        ∙ ap (λ (v : List ℤ). tab 144 (λ x. round (at v x))) (raw-vectors .numbers c)
+        ∙ ap (λ (v : List ℤ). tab 144 (λ x. round (at v x))) (raw-vectors .numbers c a q el)
         ∙ round-vectors (z .generators);
-    radii = new-radii .radii c ∙ tab-cong 6 _ (λ i. getD (tab 6 (roundedRadius z)) i 0) radius-at;
+    radii = new-radii .radii c a el ∙ tab-cong 6 _ (λ i. getD (tab 6 (roundedRadius z)) i 0) radius-at;
     small-terms = rw rounded-terms (bounded-mono (rounded-small e w r long (bounded-mono (raw-terms .numbers) (omega arith)))
         (omega arith));
     small-centre = rounded-all-small 6 centre centre′ (raw-centre .small) centre-rounded;

@@ -15,7 +15,7 @@ use Rattle.model.specs.Valid.{factorless}
 use Rattle.model.specs.Step.{remainder}
 use Rattle.zonotope.specs.Record.{view}
 use Rattle.zonotope.specs.declared.PolyZonotope.{PolyZonotope}
-use Rattle.forms.specs.Numbers.{six, lineTable, tableLimit}
+use Rattle.forms.specs.Numbers.{six, bothTable, lineTable, tableLimit}
 use Rattle.raw.specs.Zeros.{constant-at}
 use Rattle.raw.specs.Accepted.{InSpan}
 use Rattle.raw.specs.Unused.{centre-row, radius-row}
@@ -23,9 +23,9 @@ use Rattle.raw.specs.Limits.{rowSizes, term-sizes, generator-sizes, sums-small}
 use Rattle.image.specs.Remainder.{Below, spread, slopeSum, crossSum, roundedUp, imageLimit, tab-below, slope-small, cross-small}
 use Rattle.image.specs.Remainder.{rounded-up-small, remainder-from}
 
--- the new radii, from S and the counts of inexact roundings; the step's constant c does not matter
-pub record NewRadii (a q : List ℤ) (s : PolyZonotope) (counts r : List ℕ) : Type 0 where
-  pub radii : (c : List ℤ) → r ≡ tab 6 (λ i. roundedUp (remainder (six c a q) (view s) i) (getD counts i 0))
+-- the new radii, from S and the counts of inexact roundings, for any step with these lines and forms
+pub record NewRadii (lines q : List ℤ) (s : PolyZonotope) (counts r : List ℕ) : Type 0 where
+  pub radii : (c a : List ℤ) → lines ≡ lineTable a (bothTable q) (s .centre) → r ≡ tab 6 (λ i. roundedUp (remainder (six c a q) (view s) i) (getD counts i 0))
   pub small : Below imageLimit r
 
 no-rows : (xs : List ℤ) (i : ℕ) → rowSizes xs 0 i ≡ 0
@@ -75,7 +75,7 @@ module _ (s : PolyZonotope) (ok : InSpan s) where
     terms-below = tab-below 1048576 6 termSpread (λ j h. rw (terms-are j h) (sums-small s ok j .1))
 
     -- the radii from the three
-    module _ (a q lines : List ℤ) (d r w counts : List ℕ) (el : lines ≡ lineTable a q (s .centre)) (ed : d ≡ tab 6 termSpread)
+    module _ (q lines : List ℤ) (d r w counts : List ℕ) (ed : d ≡ tab 6 termSpread)
         (er : r ≡ tab 6 independentSpread) (ew : w ≡ tab 6 radiusSpread) where
       place : (xs : List ℕ) (f g : ℕ → ℕ) → xs ≡ tab 6 f → ((j : ℕ) → j < 6 → f j ≡ g j) → (j : ℕ) → j < 6 → getD xs j 0 ≡ g j
       place xs f g e h j l = ap (λ (ys : List ℕ). getD ys j 0) e ∙ getD-tab 6 f 0 j l ∙ h j l
@@ -83,8 +83,8 @@ module _ (s : PolyZonotope) (ok : InSpan s) where
       abbrev found : ℕ → ℕ
       found i = roundedUp (slopeSum lines w i + crossSum q d r i) (getD counts i 0)
 
-      found-is : (c : List ℤ) (i : ℕ) → i < 6 → found i ≡ roundedUp (remainder (six c a q) (view s) i) (getD counts i 0)
-      found-is c i h =
+      found-is : (c a : List ℤ) → lines ≡ lineTable a (bothTable q) (s .centre) → (i : ℕ) → i < 6 → found i ≡ roundedUp (remainder (six c a q) (view s) i) (getD counts i 0)
+      found-is c a el i h =
           ap (λ (n : ℕ). roundedUp n (getD counts i 0))
           (ap (λ (ls : List ℤ). slopeSum ls w i + crossSum q d r i) el
           ∙ remainder-from c a q (s .centre) (view s) (centre-row s ok) d r w (place d termSpread (λ j. termSizes (view s) j) ed terms-are)
@@ -98,8 +98,8 @@ module _ (s : PolyZonotope) (ok : InSpan s) where
           rounded-up-small (slopeSum lines w i + crossSum q d r i) (getD counts i 0) (omega arith) (hc .below i)
 
       pub new-radii : Small 32768 q → Small tableLimit lines → Below 4294967296 counts → (new : List ℕ) → new ≡ tab 6 found →
-          NewRadii a q s counts new
+          NewRadii lines q s counts new
       new-radii hq hl hc new e = record {
-        radii = λ c. e ∙ tab-cong 6 found (λ i. roundedUp (remainder (six c a q) (view s) i) (getD counts i 0)) (found-is c);
+        radii = λ c a el. e ∙ tab-cong 6 found (λ i. roundedUp (remainder (six c a q) (view s) i) (getD counts i 0)) (found-is c a el);
         small = rw e (tab-below imageLimit 6 found (λ i _. found-small hq hl hc i));
       }

@@ -14,7 +14,7 @@ use Rattle.rows.specs.Rows.{Small}
 use Rattle.model.specs.Set.{Zonotope, at, radius, termSizes, generatorSizes}
 use Rattle.model.specs.Step.{remainder}
 use Rattle.forms.specs.Tables.{rowOf, formOf}
-use Rattle.forms.specs.Numbers.{six, lineTable, tableLimit, slope-number}
+use Rattle.forms.specs.Numbers.{six, bothTable, lineTable, tableLimit, slope-number}
 use Rattle.raw.specs.Limits.{rowSizes}
 
 -- every number is at most K; past the end stands 0, so that no index matters
@@ -108,7 +108,7 @@ module _ (lines : List ℤ) (w : List ℕ) (hl : Small tableLimit lines) (hw : B
 module _ (c a q k : List ℤ) (z : Zonotope) (centred : (j : ℕ) → j < 6 → at k j ≡ at (z .centre) j) (d r w : List ℕ)
     (hd : (j : ℕ) → j < 6 → getD d j 0 ≡ termSizes z j) (hr : (j : ℕ) → j < 6 → getD r j 0 ≡ generatorSizes z j + radius z j)
     (hw : (j : ℕ) → j < 6 → getD w j 0 ≡ radius z j) where
-  pub remainder-from : (i : ℕ) → i < 6 → slopeSum (lineTable a q k) w i + crossSum q d r i ≡ remainder (six c a q) z i
+  pub remainder-from : (i : ℕ) → i < 6 → slopeSum (lineTable a (bothTable q) k) w i + crossSum q d r i ≡ remainder (six c a q) z i
   unfolding remainder
   remainder-from i h =
       ap₂ _+_

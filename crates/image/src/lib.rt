@@ -1,9 +1,10 @@
 // The image of a set under a polynomial step, before it is finished: raw numbers, then each rounded, with what rounding and the independent
 // part add to the radii.
-ghost use Prim.Native.Nat.{_≤_};
+ghost use Prim.Native.Nat.{_*_, _≤_};
 ghost use lib.ListN.{length};
 ghost use Rattle.rows.specs.Rows.{Small};
 ghost use Rattle.forms.specs.Numbers.{six};
+ghost use Rattle.forms.specs.RowsTo.{RowsTo};
 ghost use Rattle.raw.specs.Accepted.{InSpan};
 ghost use Rattle.image.specs.StepAccepted.{StepAccepted, stepOf};
 ghost use Rattle.image.specs.Imaged.{Imaged};
@@ -40,11 +41,12 @@ pub fn of_step(
     let constant = forms::wide_constant(c);
     let linear = forms::wide_linear(a, n);
     let quadratic = forms::wide_quadratic(q, n);
-    of_wide_step(&constant, &linear, &quadratic, s, w, e)
+    of_wide_step(m, &constant, &linear, &quadratic, s, w, e)
 }
 
-// The image under a step on six coordinates.
+// The image under a step on six coordinates that has rows and forms for the first m only.
 fn of_wide_step(
+    m: usize,
     c: &[i32; 6],
     a: &[i32; 36],
     q: &[i32; 216],
@@ -52,17 +54,20 @@ fn of_wide_step(
     w: &mut [i64],
     e: &mut [u8],
 ) -> Image
-    requires { ⌜ Small 1048576 (now c) × Small 32768 (now a) × Small 32768 (now q) × InSpan s
-        × (5160 ≤ length (now w)) × (10320 ≤ length (now e)) ⌝ }
+    requires { ⌜ (m ≤ 6) × Small 1048576 (now c) × Small 32768 (now a) × Small 32768 (now q) × RowsTo m (now a) × RowsTo (m * 6) (now q)
+        × InSpan s × (5160 ≤ length (now w)) × (10320 ≤ length (now e)) ⌝ }
     ensures { λ r. ⌜ Imaged (six (now (c .entry)) (now (a .entry)) (now (q .entry))) s (now (e .entry)) (now (w .entry)) r
         (now (e .exit)) (now (w .exit)) ⌝ }
 {
-    let rows = raw::terms::all_rows(w, e, a, q, s);
-    let mut centre = raw::parts::centre(c, a, q, s);
-    let mut generators = raw::parts::generators(a, q, s);
+    let k = s.centre;
+    let both = forms::both_ways(q);
+    let lines = forms::lines(a, &both, &k);
+    let rows = raw::terms::all_rows(w, e, &lines, &both, s, m);
+    let mut centre = raw::parts::centre(c, a, &lines, s);
+    let mut generators = raw::parts::generators(&lines, s, m);
     let g = s.generators;
     let counts = rounding::counts(w, rows, &centre, &generators, g);
-    let radii = remainder::radii(a, q, s, &counts);
+    let radii = remainder::radii(&lines, q, s, &counts);
     rounding::round_first(w, rows * 6);
     rounding::round_first(&mut centre, 6);
     rounding::round_first(&mut generators, 144);

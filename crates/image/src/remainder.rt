@@ -13,22 +13,20 @@ ghost use Rattle.image.specs.Radii.{NewRadii};
 use zonotope::PolyZonotope;
 
 // The new radii of a step on s, from the counts of inexact roundings.
-pub fn radii(a: &[i32; 36], q: &[i32; 216], s: PolyZonotope, counts: &[u64; 6]) -> [u64; 6]
-    requires { ⌜ Small 32768 (now a) × Small 32768 (now q) × InSpan s × Below 4294967296 (now counts) ⌝ }
-    ensures { λ r. ⌜ NewRadii (now (a .entry)) (now (q .entry)) s (now (counts .entry)) r ⌝ }
+pub fn radii(lines: &[i64; 36], q: &[i32; 216], s: PolyZonotope, counts: &[u64; 6]) -> [u64; 6]
+    requires { ⌜ Small tableLimit (now lines) × Small 32768 (now q) × InSpan s × Below 4294967296 (now counts) ⌝ }
+    ensures { λ r. ⌜ NewRadii (now (lines .entry)) (now (q .entry)) s (now (counts .entry)) r ⌝ }
 {
-    let centre = s.centre;
     let coefficients = s.coefficients;
     let vectors = s.vectors;
     let radii = s.radii;
     let h = s.terms;
     let g = s.generators;
     let none = [0u32; 6];
-    let lines = forms::lines(a, q, &centre);
     let d = spreads(&coefficients, h, &none);
     let w = spreads(&coefficients, 0, &radii);
     let r = spreads(&vectors, g, &radii);
-    radii_from(&lines, q, &d, &r, &w, counts)
+    radii_from(lines, q, &d, &r, &w, counts)
 }
 
 // ---- D, r and w

@@ -2,7 +2,7 @@
 use mathlib.Core.Bool.{Bool, true, false, cond}
 use mathlib.Core.List.{List, [], _∷_, _++_, map, append-assoc, append-nil}
 use mathlib.Core.Path.{_≡_, refl, sym, _∙_, ap}
-use Prim.Native.Nat.{ℕ, _+_, _*_, _/_, _%_, _<_, _≤_}
+use Prim.Native.Nat.{ℕ, _+_, _*_, _-_, _/_, _%_, _<_, _≤_}
 use native.Mathlib.Omega.{arith}
 use borrow.Author.Tests.{eq-eqb, ne-eqb}
 use lib.Dec.{eqb}
@@ -10,63 +10,79 @@ use lib.IntN.{ℤ, pos, negsuc, natAbs}
 use lib.ListN.{length, getD, drop}
 use Rattle.whole.specs.Half.{half}
 use Rattle.whole.specs.Tab.{tab}
-use Rattle.whole.specs.Write.{write, write-length}
+use Rattle.whole.specs.Write.{write, write-length, write-cong, write-at, write-over}
 use Rattle.rows.specs.Rows.{rowsOf, Small}
 use Rattle.model.specs.Pairs.{pairCodes}
-use Rattle.model.specs.Set.{Term}
+use Rattle.model.specs.Set.{Term, at}
 use Rattle.model.specs.Step.{dot}
 use Rattle.forms.specs.Tables.{rowOf}
-use Rattle.forms.specs.Numbers.{rawLimit, tableLimit, product-small}
+use Rattle.forms.specs.Numbers.{columnTable, bothLimit, rawLimit, tableLimit, column-small, product-small}
 use Rattle.raw.specs.Append.{Bounded, KeptFrom, rows-more, kept-after, bounded-more}
-use Rattle.raw.specs.Pairs.{used, used-taken, used-left, used-end}
+use Rattle.raw.specs.Pairs.{used, used-taken, used-skip, used-end, row-inside}
 
 -- ---- a pair's row
--- the number at coordinate i of terms s and t: one dot product with the column of t, or half of it for a term with itself
+-- the dot product at coordinate i of term t with the column of another
+abbrev pub product : List ℤ → List ℤ → ℕ → ℕ → ℤ
+product column coefficients t i = dot 6 (rowOf coefficients t) (rowOf column i)
+
+-- the number at coordinate i of terms s and t, from the column of s: that product, or half of it for a term with itself
 unfoldable pub pairNumber : List ℤ → List ℤ → ℕ → ℕ → ℕ → ℤ
-pairNumber columns coefficients s t i =
-    cond (eqb s t) (half (dot 6 (rowOf coefficients s) (rowOf columns (40 * i + t))))
-    (dot 6 (rowOf coefficients s) (rowOf columns (40 * i + t)))
+pairNumber column coefficients s t i = cond (eqb s t) (half (product column coefficients t i)) (product column coefficients t i)
 
 -- the exponents are added
 abbrev pub pairExponent : List ℕ → ℕ → ℕ → ℕ → ℕ
 pairExponent exponents s t k = getD exponents (s * 12 + k) 0 + getD exponents (t * 12 + k) 0
 
--- the row of the pair with a code
+-- the row of the pair with a code, from the table of Q + Qᵀ
 abbrev pub pairRow : List ℤ → List ℤ → List ℕ → ℕ → Term
-pairRow columns coefficients exponents c = record {
+pairRow both coefficients exponents c = record {
   exponents = tab 12 (pairExponent exponents (c / 40) (c % 40));
-  coefficients = tab 6 (pairNumber columns coefficients (c / 40) (c % 40));
+  coefficients = tab 6 (pairNumber (columnTable both coefficients (c / 40)) coefficients (c / 40) (c % 40));
 }
 
-module _ (columns coefficients : List ℤ) (s t i : ℕ) where
-  pub number-square : s ≡ t → pairNumber columns coefficients s t i ≡ half (dot 6 (rowOf coefficients s) (rowOf columns (40 * i + t)))
+module _ (column coefficients : List ℤ) (s t i : ℕ) where
+  pub number-square : s ≡ t → pairNumber column coefficients s t i ≡ half (product column coefficients t i)
   unfolding pairNumber
   number-square e = rw (eq-eqb s t e)
 
-  pub number-pair : (s ≡ t → ⊥) → pairNumber columns coefficients s t i ≡ dot 6 (rowOf coefficients s) (rowOf columns (40 * i + t))
+  pub number-pair : (s ≡ t → ⊥) → pairNumber column coefficients s t i ≡ product column coefficients t i
   unfolding pairNumber
   number-pair e = rw (ne-eqb s t e)
+
+-- the products are written, and then halved for a term with itself
+module _ (column coefficients w w₁ : List ℤ) (r s t : ℕ) (e : w₁ ≡ write w (r * 6) (product column coefficients t) 6) where
+  pub pair-written : (s ≡ t → ⊥) → w₁ ≡ write w (r * 6) (pairNumber column coefficients s t) 6
+  pair-written d = e ∙ write-cong w (r * 6) _ _ 6 (λ i _. sym (number-pair column coefficients s t i d))
+
+  pub square-written : (w₂ : List ℤ) → s ≡ t → r * 6 + 6 ≤ length w → w₂ ≡ write w₁ (r * 6) (λ i. half (at w₁ (r * 6 + i))) 6
+      → w₂ ≡ write w (r * 6) (pairNumber column coefficients s t) 6
+  square-written w₂ d l f =
+      f
+      ∙ write-cong w₁ (r * 6) _ (pairNumber column coefficients s t) 6
+      (λ i h. ap half (ap (λ (v : List ℤ). at v (r * 6 + i)) e ∙ write-at w (r * 6) (product column coefficients t) (pos 0) 6 i h l)
+      ∙ sym (number-square column coefficients s t i d))
+      ∙ ap (λ (v : List ℤ). write v (r * 6) (pairNumber column coefficients s t) 6) e
+      ∙ write-over w (r * 6) (product column coefficients t) (pairNumber column coefficients s t) (pos 0) 6 l
 
 pub half-small : (z : ℤ) (K : ℕ) → natAbs z ≤ K → natAbs (half z) ≤ K
 unfolding half
 half-small (pos a) K h = omega arith
 half-small (negsuc a) K h = omega arith
 
-pub number-small : (columns coefficients : List ℤ) → Small 1048576 coefficients → Small tableLimit columns → (s t i : ℕ)
-    → natAbs (pairNumber columns coefficients s t i) ≤ rawLimit
+pub number-small : (column coefficients : List ℤ) → Small 1048576 coefficients → Small tableLimit column → (s t i : ℕ)
+    → natAbs (pairNumber column coefficients s t i) ≤ rawLimit
 unfolding pairNumber
-number-small columns coefficients hc hn s t i = go (eqb s t) (product-small coefficients columns hc hn s (40 * i + t))
+number-small column coefficients hc hn s t i = go (eqb s t) (product-small coefficients column hc hn t i)
   where
-    go : (b : Bool) → natAbs (dot 6 (rowOf coefficients s) (rowOf columns (40 * i + t))) ≤ rawLimit
-        → natAbs (cond b (half (dot 6 (rowOf coefficients s) (rowOf columns (40 * i + t))))
-        (dot 6 (rowOf coefficients s) (rowOf columns (40 * i + t)))) ≤ rawLimit
-    go true h = half-small (dot 6 (rowOf coefficients s) (rowOf columns (40 * i + t))) rawLimit h
+    go : (b : Bool) → natAbs (product column coefficients t i) ≤ rawLimit
+        → natAbs (cond b (half (product column coefficients t i)) (product column coefficients t i)) ≤ rawLimit
+    go true h = half-small (product column coefficients t i) rawLimit h
     go false h = h
 
 -- ---- the loop: k places of the table are passed, and r rows stand
-module _ (columns coefficients : List ℤ) (exponents : List ℕ) (h : ℕ) (e₀ : List ℕ) (w₀ : List ℤ) where
+module _ (both coefficients : List ℤ) (exponents : List ℕ) (h : ℕ) (e₀ : List ℕ) (w₀ : List ℤ) where
   abbrev rowOfPair : ℕ → Term
-  rowOfPair = pairRow columns coefficients exponents
+  rowOfPair = pairRow both coefficients exponents
 
   -- all rows: those that stood, and those of the used pairs
   abbrev pub allRows : List Term
@@ -110,24 +126,31 @@ module _ (columns coefficients : List ℤ) (exponents : List ℕ) (h : ℕ) (e�
     abbrev c : ℕ
     c = getD (pairCodes 40) k 0
 
-    pub taken-left : h ≤ c % 40 → Taken (k + 1) r e w
-    taken-left b = let p = now .inside in record {
-      passed = omega arith;
-      least = now .least;
-      inside = omega arith;
-      rows = ap (λ (cs : List ℕ). rowsOf e w r ++ map rowOfPair cs) (sym (used-left h k more b)) ∙ now .rows;
-      numbers = now .numbers;
-      long-exponents = now .long-exponents;
-      long-numbers = now .long-numbers;
-      later-exponents = now .later-exponents;
-      later-numbers = now .later-numbers;
-    }
+    -- the rest of a row of the table, from a pair that isn't used on
+    pub taken-left : (x : ℕ) → x ≡ c → h ≤ x % 40 → Taken (k + (40 - x % 40)) r e w
+    taken-left x same b =
+        let p = now .inside in
+        let i = row-inside k more in record {
+          passed = omega arith;
+          least = now .least;
+          inside = omega arith;
+          rows =
+              ap (λ (cs : List ℕ). rowsOf e w r ++ map rowOfPair cs)
+              (ap (λ (y : ℕ). used h (drop (k + (40 - y % 40)) (pairCodes 40))) same
+              ∙ sym (used-skip h (40 - c % 40) k more refl (rw same at b)))
+              ∙ now .rows;
+          numbers = now .numbers;
+          long-exponents = now .long-exponents;
+          long-numbers = now .long-numbers;
+          later-exponents = now .later-exponents;
+          later-numbers = now .later-numbers;
+        }
 
     abbrev G : ℕ → ℕ
     G = pairExponent exponents (c / 40) (c % 40)
 
     abbrev F : ℕ → ℤ
-    F = pairNumber columns coefficients (c / 40) (c % 40)
+    F = pairNumber (columnTable both coefficients (c / 40)) coefficients (c / 40) (c % 40)
 
     written : c % 40 < h → r * 12 + 12 ≤ length e → r * 6 + 6 ≤ length w → ((j : ℕ) → j < 6 → natAbs (F j) ≤ rawLimit)
         → Taken (k + 1) (r + 1) (write e (r * 12) G 12) (write w (r * 6) F 6)
@@ -154,13 +177,17 @@ module _ (columns coefficients : List ℤ) (exponents : List ℕ) (h : ℕ) (e�
     }
 
     -- x is the code as the loop holds it
-    pub taken-one : (x : ℕ) (e′ : List ℕ) (w′ : List ℤ) → x ≡ c → x % 40 < h → r * 12 + 12 ≤ length e → r * 6 + 6 ≤ length w
-        → Small 1048576 coefficients → Small tableLimit columns
+    pub taken-one : (x : ℕ) (column : List ℤ) (e′ : List ℕ) (w′ : List ℤ) → x ≡ c → column ≡ columnTable both coefficients (x / 40)
+        → x % 40 < h → r * 12 + 12 ≤ length e → r * 6 + 6 ≤ length w
+        → Small 1048576 coefficients → Small bothLimit both
         → e′ ≡ write e (r * 12) (pairExponent exponents (x / 40) (x % 40)) 12
-        → w′ ≡ write w (r * 6) (pairNumber columns coefficients (x / 40) (x % 40)) 6
+        → w′ ≡ write w (r * 6) (pairNumber column coefficients (x / 40) (x % 40)) 6
         → Taken (k + 1) (r + 1) e′ w′
-    taken-one x e′ w′ same b le lw hc hn pe pw =
-        rw (pe, pw, same) (written (rw same at b) le lw (λ j l. number-small columns coefficients hc hn (c / 40) (c % 40) j))
+    taken-one x column e′ w′ same ec b le lw hc hb pe pw =
+        rw (pe, pw, ec, same)
+        (written (rw same at b) le lw
+        (λ j l. number-small (columnTable both coefficients (c / 40)) coefficients hc (column-small both coefficients hb hc (c / 40)) (c / 40)
+        (c % 40) j))
 
   pub taken-all : (k r : ℕ) (e : List ℕ) (w : List ℤ) → Taken k r e w → 820 ≤ k → Added r e w
   taken-all k r e w t l =

@@ -22,7 +22,7 @@ use Rattle.zonotope.specs.declared.PolyZonotope.{PolyZonotope}
 use Rattle.forms.specs.Dot.{dot-small}
 use Rattle.forms.specs.Tables.{rowOf, tab-small}
 use Rattle.forms.specs.Filling.{first-at}
-use Rattle.forms.specs.Numbers.{six, lineTable, tableLimit, roundLimit, product-small, term-number, centre-number}
+use Rattle.forms.specs.Numbers.{six, bothTable, lineTable, tableLimit, roundLimit, product-small, term-number, centre-number}
 use Rattle.raw.specs.Zeros.{zeros-at}
 use Rattle.raw.specs.Accepted.{InSpan}
 use Rattle.raw.specs.Unused.{generatorAt, counts-in, centre-row, generator-row}
@@ -32,14 +32,15 @@ use Rattle.raw.specs.PairRows.{half-small}
 abbrev pub wideVectors : List (List ℤ) → List ℤ
 wideVectors gs = tab 144 (λ x. at (getD gs (x / 6) []) (x % 6))
 
--- r is the raw centre of the image of s
-pub record RawCentre (c a q : List ℤ) (s : PolyZonotope) (r : List ℤ) : Type 0 where
-  pub numbers : r ≡ tab 6 (rawCentre (six c a q) (view s))
+-- r is the raw centre of the image of s under any step with this constant, this A and these lines
+pub record RawCentre (c a lines : List ℤ) (s : PolyZonotope) (r : List ℤ) : Type 0 where
+  pub numbers : (q : List ℤ) → lines ≡ lineTable a (bothTable q) (s .centre) → r ≡ tab 6 (rawCentre (six c a q) (view s))
   pub small : Small roundLimit r
 
--- r has the raw generators of the image of s in rows of six; the step's constant c does not matter to them
-pub record RawGenerators (a q : List ℤ) (s : PolyZonotope) (r : List ℤ) : Type 0 where
-  pub numbers : (c : List ℤ) → r ≡ wideVectors (raw (six c a q) (view s) .generators)
+-- r has the raw generators of the image of s in rows of six, for any step with these lines
+pub record RawGenerators (lines : List ℤ) (s : PolyZonotope) (r : List ℤ) : Type 0 where
+  pub numbers : (c a q : List ℤ) → lines ≡ lineTable a (bothTable q) (s .centre)
+      → r ≡ wideVectors (raw (six c a q) (view s) .generators)
   pub small : Small roundLimit r
 
 -- ---- the centre
@@ -81,27 +82,20 @@ module _ (a lines k : List ℤ) (ha : Small 32768 a) (hl : Small tableLimit line
             (centreHalf a lines k i) 2595762235225669632 half-room,
       )
 
+pub raw-centre : (c a lines : List ℤ) (s : PolyZonotope) (ok : InSpan s) → Small 1048576 c → Small 32768 a → Small tableLimit lines
+    → Small 1048576 (s .centre) → (r : List ℤ) → r ≡ tab 6 (centreNumber c a lines (s .centre)) → RawCentre c a lines s r
+unfolding centreNumber
+raw-centre c a lines s ok hc ha hl hk r e = record {
+  numbers = λ q same. e ∙ ap (λ (ls : List ℤ). tab 6 (centreNumber c a ls (s .centre))) same
+      ∙ tab-cong 6 (centreNumber c a (lineTable a (bothTable q) (s .centre)) (s .centre)) (rawCentre (six c a q) (view s))
+      (λ i h. centre-number c a q (s .centre) (view s) (centre-row s ok) i h);
+  small = rw e (tab-small roundLimit 6 (centreNumber c a lines (s .centre)) (λ i h. centre-room a lines (s .centre) ha hl hk i c hc));
+}
+
 module _ (c a q : List ℤ) (s : PolyZonotope) (ok : InSpan s) where
-  centre-from : tab 6 (centreNumber c a (lineTable a q (s .centre)) (s .centre)) ≡ tab 6 (rawCentre (six c a q) (view s))
-  unfolding centreNumber
-  centre-from =
-      tab-cong 6 (centreNumber c a (lineTable a q (s .centre)) (s .centre)) (rawCentre (six c a q) (view s))
-      (λ i h. centre-number c a q (s .centre) (view s) (centre-row s ok) i h)
-
-  pub raw-centre : Small 1048576 c → Small 32768 a → Small tableLimit (lineTable a q (s .centre)) → Small 1048576 (s .centre) →
-      (lines r : List ℤ)
-      → lines ≡ lineTable a q (s .centre) → r ≡ tab 6 (centreNumber c a lines (s .centre)) → RawCentre c a q s r
-  raw-centre hc ha hl hk lines r same e =
-      let d : r ≡ tab 6 (centreNumber c a (lineTable a q (s .centre)) (s .centre)) = e
-      ∙ ap (λ (ls : List ℤ). tab 6 (centreNumber c a ls (s .centre))) same in record {
-        numbers = d ∙ centre-from;
-        small = rw d (tab-small roundLimit 6 (centreNumber c a (lineTable a q (s .centre)) (s .centre))
-            (λ i h. centre-room a (lineTable a q (s .centre)) (s .centre) ha hl hk i c hc));
-      }
-
   -- ---- the generators
   abbrev F : ℕ → ℤ
-  F x = dot 6 (rowOf (s .vectors) (x / 6)) (rowOf (lineTable a q (s .centre)) (x % 6))
+  F x = dot 6 (rowOf (s .vectors) (x / 6)) (rowOf (lineTable a (bothTable q) (s .centre)) (x % 6))
 
   abbrev images : List (List ℤ)
   images = raw (six c a q) (view s) .generators
@@ -137,25 +131,28 @@ module _ (c a q : List ℤ) (s : PolyZonotope) (ok : InSpan s) where
       ext-getD (pos 0) (write ws 0 F (s .generators * 6)) (wideVectors images) (m ∙ sym (length-tab 144 f))
       (λ x h. let b : x < 144 = omega (arith, m) in generators-at ws l none x b ∙ sym (getD-tab 144 f (pos 0) x b))
 
-  generators-small : Small 1048576 (s .vectors) → Small tableLimit (lineTable a q (s .centre)) → (ws : List ℤ) → length ws ≡ 144
-      → ((x : ℕ) → at ws x ≡ pos 0) → Small roundLimit (write ws 0 F (s .generators * 6))
-  generators-small hv hl ws l none = record { small = λ x. go x (decLt x (s .generators * 6)) }
-    where
-      go : (x : ℕ) → Dec (x < s .generators * 6) → natAbs (at (write ws 0 F (s .generators * 6)) x) ≤ roundLimit
-      go x (yes p) =
-          rw (first-at ws F (pos 0) (s .generators * 6) x p (omega (arith, counts-in s ok)))
-          (omega (arith, product-small (s .vectors) (lineTable a q (s .centre)) hv hl (x / 6) (x % 6)))
-      go x (no p) = rw (write-after ws 0 F (pos 0) (s .generators * 6) x (omega arith), none x) (omega arith)
+generators-small : (lines : List ℤ) (s : PolyZonotope) → InSpan s → Small 1048576 (s .vectors) → Small tableLimit lines → (ws : List ℤ)
+    → length ws ≡ 144 → ((x : ℕ) → at ws x ≡ pos 0)
+    → Small roundLimit (write ws 0 (λ x. dot 6 (rowOf (s .vectors) (x / 6)) (rowOf lines (x % 6))) (s .generators * 6))
+generators-small lines s ok hv hl ws l none = record { small = λ x. go x (decLt x (s .generators * 6)) }
+  where
+    F : ℕ → ℤ
+    F x = dot 6 (rowOf (s .vectors) (x / 6)) (rowOf lines (x % 6))
 
--- the lines as the code holds them, and an array of zeros that is written
-pub raw-generators : (a q : List ℤ) (s : PolyZonotope) → InSpan s → Small 1048576 (s .vectors) →
-    Small tableLimit (lineTable a q (s .centre))
-    → (lines ws w : List ℤ) → lines ≡ lineTable a q (s .centre) → length ws ≡ 144 → T (zeros ws)
-    → w ≡ write ws 0 (λ x. dot 6 (rowOf (s .vectors) (x / 6)) (rowOf lines (x % 6))) (s .generators * 6) → RawGenerators a q s w
-raw-generators a q s ok hv hl lines ws w same l none e =
-    let d : w ≡ write ws 0 (λ x. dot 6 (rowOf (s .vectors) (x / 6)) (rowOf (lineTable a q (s .centre)) (x % 6))) (s .generators * 6) =
-    e ∙ ap (λ (ls : List ℤ). write ws 0 (λ x. dot 6 (rowOf (s .vectors) (x / 6)) (rowOf ls (x % 6))) (s .generators * 6)) same in
-    record {
-      numbers = λ c. d ∙ generators-from c a q s ok ws l (zeros-at ws none);
-      small = rw d (generators-small [] a q s ok hv hl ws l (zeros-at ws none));
-    }
+    go : (x : ℕ) → Dec (x < s .generators * 6) → natAbs (at (write ws 0 F (s .generators * 6)) x) ≤ roundLimit
+    go x (yes p) =
+        rw (first-at ws F (pos 0) (s .generators * 6) x p (omega (arith, counts-in s ok)))
+        (omega (arith, product-small (s .vectors) lines hv hl (x / 6) (x % 6)))
+    go x (no p) = rw (write-after ws 0 F (pos 0) (s .generators * 6) x (omega arith), none x) (omega arith)
+
+-- an array of zeros that is written
+pub raw-generators : (lines : List ℤ) (s : PolyZonotope) → InSpan s → Small 1048576 (s .vectors) → Small tableLimit lines
+    → (ws w : List ℤ) → length ws ≡ 144 → T (zeros ws)
+    → w ≡ write ws 0 (λ x. dot 6 (rowOf (s .vectors) (x / 6)) (rowOf lines (x % 6))) (s .generators * 6) → RawGenerators lines s w
+raw-generators lines s ok hv hl ws w l none e = record {
+  numbers = λ c a q same.
+      e
+      ∙ ap (λ (ls : List ℤ). write ws 0 (λ x. dot 6 (rowOf (s .vectors) (x / 6)) (rowOf ls (x % 6))) (s .generators * 6)) same
+      ∙ generators-from c a q s ok ws l (zeros-at ws none);
+  small = rw e (generators-small lines s ok hv hl ws l (zeros-at ws none));
+}

@@ -16,7 +16,7 @@ use Rattle.zonotope.specs.Record.{view}
 use Rattle.zonotope.specs.declared.PolyZonotope.{PolyZonotope}
 use Rattle.forms.specs.Tables.{rowOf}
 use Rattle.forms.specs.Filling.{first-at}
-use Rattle.forms.specs.Numbers.{six, lineTable, columnTable, tableLimit, rawLimit, product-small, term-number, pair-number, square-number}
+use Rattle.forms.specs.Numbers.{six, bothTable, lineTable, columnTable, tableLimit, rawLimit, product-small, term-number, pair-number, square-number}
 use Rattle.raw.specs.Accepted.{InSpan}
 use Rattle.raw.specs.Unused.{termAt, counts-in, centre-row, exponent-row, coefficient-row}
 use Rattle.raw.specs.Append.{wideTerm, Bounded, KeptFrom, term-same, rows-first, kept-after}
@@ -24,10 +24,11 @@ use Rattle.raw.specs.Pairs.{used}
 use Rattle.raw.specs.PairOrder.{pairs-used}
 use Rattle.raw.specs.PairRows.{pairNumber, pairExponent, pairRow, number-square, number-pair, Added}
 
--- r rows hold the raw terms; c, the step's constant, does not matter to them
-pub record RawTerms (a q : List ℤ) (s : PolyZonotope) (e₀ : List ℕ) (w₀ : List ℤ) (r : ℕ) (e : List ℕ) (w : List ℤ) : Type 0 where
+-- r rows hold the raw terms of any step with these tables, whatever its constant c
+pub record RawTerms (lines both : List ℤ) (s : PolyZonotope) (e₀ : List ℕ) (w₀ : List ℤ) (r : ℕ) (e : List ℕ) (w : List ℤ) : Type 0 where
   pub inside : r ≤ 860
-  pub rows : (c : List ℤ) → rowsOf e w r ≡ map wideTerm (raw (six c a q) (view s) .terms)
+  pub rows : (c a q : List ℤ) → both ≡ bothTable q → lines ≡ lineTable a (bothTable q) (s .centre)
+      → rowsOf e w r ≡ map wideTerm (raw (six c a q) (view s) .terms)
   pub numbers : Bounded rawLimit (r * 6) w
   pub later-exponents : KeptFrom 0 (r * 12) e₀ e
   pub later-numbers : KeptFrom (pos 0) (r * 6) w₀ w
@@ -48,10 +49,10 @@ module _ (a q : List ℤ) (s : PolyZonotope) (ok : InSpan s) (c : List ℤ) wher
   z = view s
 
   abbrev lines : List ℤ
-  lines = lineTable a q (s .centre)
+  lines = lineTable a (bothTable q) (s .centre)
 
-  abbrev columns : List ℤ
-  columns = columnTable q (s .coefficients)
+  abbrev both : List ℤ
+  both = bothTable q
 
   abbrev F : ℕ → ℤ
   F x = dot 6 (rowOf (s .coefficients) (x / 6)) (rowOf lines (x % 6))
@@ -79,7 +80,7 @@ module _ (a q : List ℤ) (s : PolyZonotope) (ok : InSpan s) (c : List ℤ) wher
       ap₂ _+_ (exponent-row s ok i hi k l) (exponent-row s ok j hj k l)
       ∙ sym (longer-at (termAt s i .exponents) (termAt s j .exponents) k)
 
-  square-row : (t : ℕ) → t < s .terms → pairRow columns (s .coefficients) (s .exponents) (40 * t + t) ≡ wideTerm (squared P z (termAt s t))
+  square-row : (t : ℕ) → t < s .terms → pairRow both (s .coefficients) (s .exponents) (40 * t + t) ≡ wideTerm (squared P z (termAt s t))
   square-row t h =
       let b = below t h in
       let e : (40 * t + t) / 40 ≡ t = omega arith in
@@ -87,17 +88,17 @@ module _ (a q : List ℤ) (s : PolyZonotope) (ok : InSpan s) (c : List ℤ) wher
       ap₂ (λ (x y : ℕ). record {
         exponents = tab 12 (pairExponent (s .exponents) x y);
         coefficients =
-            tab 6 (pairNumber columns (s .coefficients) x y);
+            tab 6 (pairNumber (columnTable both (s .coefficients) x) (s .coefficients) x y);
       }) e f
       ∙ term-same (tab-cong 12 _ _ (exponents-added t t b b))
       (tab-cong 6 _ _
       (λ i l.
-      number-square columns (s .coefficients) t t i refl
-      ∙ square-number c a q (s .coefficients) z i t (termAt s t .coefficients) l b (coefficient-row s ok t b)
+      number-square (columnTable both (s .coefficients) t) (s .coefficients) t t i refl
+      ∙ square-number c a q (s .coefficients) z i t (termAt s t .coefficients) l (coefficient-row s ok t b)
       ∙ sym (getD-tab 6 (rawSquare P z (termAt s t .coefficients)) (pos 0) i l)))
 
   pair-row : (u t : ℕ) → u < t → t < s .terms
-      → pairRow columns (s .coefficients) (s .exponents) (40 * u + t) ≡ wideTerm (paired P z (termAt s u) (termAt s t))
+      → pairRow both (s .coefficients) (s .exponents) (40 * u + t) ≡ wideTerm (paired P z (termAt s u) (termAt s t))
   pair-row u t m h =
       let b = below t h in
       let d : u < 40 = omega arith in
@@ -106,13 +107,13 @@ module _ (a q : List ℤ) (s : PolyZonotope) (ok : InSpan s) (c : List ℤ) wher
       ap₂ (λ (x y : ℕ). record {
         exponents = tab 12 (pairExponent (s .exponents) x y);
         coefficients =
-            tab 6 (pairNumber columns (s .coefficients) x y);
+            tab 6 (pairNumber (columnTable both (s .coefficients) x) (s .coefficients) x y);
       }) e f
       ∙ term-same (tab-cong 12 _ _ (exponents-added u t d b))
       (tab-cong 6 _ _
       (λ i l.
-      number-pair columns (s .coefficients) u t i (λ n. omega arith)
-      ∙ pair-number c a q (s .coefficients) z i u t (termAt s u .coefficients) (termAt s t .coefficients) l b (coefficient-row s ok u d)
+      number-pair (columnTable both (s .coefficients) u) (s .coefficients) u t i (λ n. omega arith)
+      ∙ pair-number c a q (s .coefficients) z i u t (termAt s u .coefficients) (termAt s t .coefficients) l (coefficient-row s ok u d)
       (coefficient-row s ok t b)
       ∙ sym (getD-tab 6 (rawPair P z (termAt s u .coefficients) (termAt s t .coefficients)) (pos 0) i l)))
 
@@ -125,38 +126,40 @@ module _ (a q : List ℤ) (s : PolyZonotope) (ok : InSpan s) (c : List ℤ) wher
       ∙ sym (ap (map wideTerm) (map-tab (own P z) (s .terms) (termAt s)) ∙ map-tab wideTerm (s .terms) (λ t. own P z (termAt s t)))
 
   all-rows : (rows : List Term) → rows ≡ map wideTerm (map (own P z) (tab (s .terms) (termAt s)))
-      → rows ++ map (pairRow columns (s .coefficients) (s .exponents)) (used (s .terms) (pairCodes 40)) ≡ map wideTerm (raw P z .terms)
+      → rows ++ map (pairRow both (s .coefficients) (s .exponents)) (used (s .terms) (pairCodes 40)) ≡ map wideTerm (raw P z .terms)
   unfolding raw view
   all-rows rows h =
       ap₂ (λ (x y : List Term). x ++ y) h
-      (pairs-used P z (s .terms) (counts-in s ok .2) (termAt s) wideTerm (pairRow columns (s .coefficients) (s .exponents)) square-row
+      (pairs-used P z (s .terms) (counts-in s ok .2) (termAt s) wideTerm (pairRow both (s .coefficients) (s .exponents)) square-row
       pair-row)
       ∙ sym (map-append wideTerm (map (own P z) (tab (s .terms) (termAt s))) (pairs P z (tab (s .terms) (termAt s))))
 
 -- ---- the stage: own terms, then pairs
 -- the own terms' numbers, from the lines
-abbrev pub ownNumber : List ℤ → List ℤ → PolyZonotope → ℕ → ℤ
-ownNumber a q s x = dot 6 (rowOf (s .coefficients) (x / 6)) (rowOf (lineTable a q (s .centre)) (x % 6))
+abbrev pub ownNumber : List ℤ → PolyZonotope → ℕ → ℤ
+ownNumber lines s x = dot 6 (rowOf (s .coefficients) (x / 6)) (rowOf lines (x % 6))
 
-pub own-bounded : (a q : List ℤ) (s : PolyZonotope) → InSpan s → (w₀ w₁ : List ℤ) → 5160 ≤ length w₀ → w₁ ≡
-    write w₀ 0 (ownNumber a q s) (s .terms * 6)
-    → Small 1048576 (s .coefficients) → Small tableLimit (lineTable a q (s .centre)) → Bounded rawLimit (s .terms * 6) w₁
-own-bounded a q s ok w₀ w₁ lw numbers hc hl = rw numbers (record {
+pub own-bounded : (lines : List ℤ) (s : PolyZonotope) → InSpan s → (w₀ w₁ : List ℤ) → 5160 ≤ length w₀ → w₁ ≡
+    write w₀ 0 (ownNumber lines s) (s .terms * 6)
+    → Small 1048576 (s .coefficients) → Small tableLimit lines → Bounded rawLimit (s .terms * 6) w₁
+own-bounded lines s ok w₀ w₁ lw numbers hc hl = rw numbers (record {
   bounded = λ x h.
-      rw (first-at w₀ (ownNumber a q s) (pos 0) (s .terms * 6) x h (omega (arith, counts-in s ok)))
-      (product-small (s .coefficients) (lineTable a q (s .centre)) hc hl (x / 6) (x % 6));
+      rw (first-at w₀ (ownNumber lines s) (pos 0) (s .terms * 6) x h (omega (arith, counts-in s ok)))
+      (product-small (s .coefficients) lines hc hl (x / 6) (x % 6));
 })
 
-module _ (a q : List ℤ) (s : PolyZonotope) (ok : InSpan s) (e₀ e₁ e : List ℕ) (w₀ w₁ w : List ℤ) (r : ℕ)
+module _ (lines both : List ℤ) (s : PolyZonotope) (ok : InSpan s) (e₀ e₁ e : List ℕ) (w₀ w₁ w : List ℤ) (r : ℕ)
     (le : 10320 ≤ length e₀) (lw : 5160 ≤ length w₀)
     (exponents : e₁ ≡ write e₀ 0 (λ x. getD (s .exponents) x 0) (s .terms * 12))
-    (numbers : w₁ ≡ write w₀ 0 (ownNumber a q s) (s .terms * 6)) where
-  pub raw-terms : Added (columnTable q (s .coefficients)) (s .coefficients) (s .exponents) (s .terms) e₁ w₁ r e w →
-      RawTerms a q s e₀ w₀ r e w
+    (numbers : w₁ ≡ write w₀ 0 (ownNumber lines s) (s .terms * 6)) where
+  pub raw-terms : Added both (s .coefficients) (s .exponents) (s .terms) e₁ w₁ r e w → RawTerms lines both s e₀ w₀ r e w
   raw-terms t = let o = t .least in let i = t .inside in record {
     inside = omega (arith, counts-in s ok);
-    rows = λ c. t .rows ∙ all-rows a q s ok c (rowsOf e₁ w₁ (s .terms))
-        (ap₂ (λ (x : List ℕ) (y : List ℤ). rowsOf x y (s .terms)) exponents numbers
+    rows = λ c a q eb el. t .rows
+        ∙ ap (λ (b : List ℤ). rowsOf e₁ w₁ (s .terms) ++ map (pairRow b (s .coefficients) (s .exponents)) (used (s .terms) (pairCodes 40))) eb
+        ∙ all-rows a q s ok c (rowsOf e₁ w₁ (s .terms))
+        (ap₂ (λ (x : List ℕ) (y : List ℤ). rowsOf x y (s .terms)) exponents
+        (numbers ∙ ap (λ (ls : List ℤ). write w₀ 0 (ownNumber ls s) (s .terms * 6)) el)
         ∙ own-rows a q s ok c e₀ w₀ (omega (arith, counts-in s ok)) (omega (arith, counts-in s ok)));
     numbers = t .numbers;
     later-exponents = record {
@@ -165,6 +168,6 @@ module _ (a q : List ℤ) (s : PolyZonotope) (ok : InSpan s) (e₀ e₁ e : List
     };
     later-numbers = record {
       place = λ x l. t .later-numbers .place x l ∙ ap (λ (y : List ℤ). at y x) numbers
-          ∙ kept-after (pos 0) w₀ 0 (ownNumber a q s) (s .terms * 6) .place x (omega arith);
+          ∙ kept-after (pos 0) w₀ 0 (ownNumber lines s) (s .terms * 6) .place x (omega arith);
     };
   }

@@ -4,32 +4,30 @@ ghost use Prim.Native.Nat.{_<_};
 ghost use Rattle.whole.specs.Tab.{tab};
 ghost use Rattle.rows.specs.Rows.{Small};
 ghost use Rattle.forms.specs.Numbers.{tableLimit};
+ghost use Rattle.forms.specs.RowsTo.{RowsTo};
 ghost use Rattle.raw.specs.Accepted.{InSpan};
 ghost use Rattle.raw.specs.Parts.{centreNumber, RawCentre, RawGenerators};
 use crate::terms;
 use zonotope::PolyZonotope;
 
 // The raw centre of the image of s.
-pub fn centre(c: &[i32; 6], a: &[i32; 36], q: &[i32; 216], s: PolyZonotope) -> [i64; 6]
-    requires { ⌜ Small 1048576 (now c) × Small 32768 (now a) × Small 32768 (now q) × InSpan s ⌝ }
-    ensures { λ r. ⌜ RawCentre (now (c .entry)) (now (a .entry)) (now (q .entry)) s r ⌝ }
+pub fn centre(c: &[i32; 6], a: &[i32; 36], lines: &[i64; 36], s: PolyZonotope) -> [i64; 6]
+    requires { ⌜ Small 1048576 (now c) × Small 32768 (now a) × Small tableLimit (now lines) × InSpan s ⌝ }
+    ensures { λ r. ⌜ RawCentre (now (c .entry)) (now (a .entry)) (now (lines .entry)) s r ⌝ }
 {
     let k = s.centre;
-    let lines = forms::lines(a, q, &k);
-    centre_numbers(c, a, &lines, &k)
+    centre_numbers(c, a, lines, &k)
 }
 
-// The raw generators of the image of s, in rows of six.
-pub fn generators(a: &[i32; 36], q: &[i32; 216], s: PolyZonotope) -> [i64; 144]
-    requires { ⌜ Small 32768 (now a) × Small 32768 (now q) × InSpan s ⌝ }
-    ensures { λ r. ⌜ RawGenerators (now (a .entry)) (now (q .entry)) s r ⌝ }
+// The raw generators of the image of s under a step to m coordinates, in rows of six.
+pub fn generators(lines: &[i64; 36], s: PolyZonotope, m: usize) -> [i64; 144]
+    requires { ⌜ Small tableLimit (now lines) × RowsTo m (now lines) × InSpan s ⌝ }
+    ensures { λ r. ⌜ RawGenerators (now (lines .entry)) s r ⌝ }
 {
-    let k = s.centre;
     let vectors = s.vectors;
     let g = s.generators;
-    let lines = forms::lines(a, q, &k);
     let mut out = [0i64; 144];
-    terms::linear_numbers(&mut out, &lines, &vectors, g);
+    terms::linear_numbers(&mut out, lines, &vectors, g, m);
     out
 }
 

@@ -1,13 +1,17 @@
 // The raw terms of the image in rows of the work slices: own terms first, then the pairs of terms.
 ghost use mathlib.Core.Path.{_≡_};
 ghost use Prim.Native.Nat.{ℕ, _+_, _*_, _/_, _%_, _≤_, _<_};
+ghost use lib.IntN.{pos};
 ghost use lib.ListN.{length, getD};
+ghost use Rattle.whole.specs.Half.{half};
 ghost use Rattle.whole.specs.Write.{write};
 ghost use Rattle.rows.specs.Rows.{Small};
 ghost use Rattle.model.specs.Pairs.{pairCodes};
+ghost use Rattle.model.specs.Set.{at};
 ghost use Rattle.model.specs.Step.{dot};
 ghost use Rattle.forms.specs.Tables.{rowOf};
-ghost use Rattle.forms.specs.Numbers.{tableLimit, rawLimit};
+ghost use Rattle.forms.specs.Numbers.{bothLimit, tableLimit, rawLimit, bothTable, lineTable, columnTable};
+ghost use Rattle.forms.specs.RowsTo.{RowsTo};
 ghost use Rattle.raw.specs.Accepted.{InSpan};
 ghost use Rattle.raw.specs.Limits.{Low};
 ghost use Rattle.raw.specs.Append.{Bounded};
@@ -16,40 +20,38 @@ ghost use Rattle.raw.specs.Terms.{RawTerms};
 use crate::pairs;
 use zonotope::PolyZonotope;
 
-// The numbers of the first rows of v, each a dot product with the line of its coordinate.
-pub fn linear_numbers(w: &mut [i64], lines: &[i64; 36], v: &[i32], rows: usize)
+// The numbers of the first rows of v, each a dot product with the line of its coordinate. Only the first m coordinates have lines.
+pub fn linear_numbers(w: &mut [i64], lines: &[i64; 36], v: &[i32], rows: usize, m: usize)
     requires { ⌜ (rows ≤ 40) × (rows * 6 ≤ length (now w)) × (rows * 6 ≤ length (now v))
-        × Small tableLimit (now lines) × Small 1048576 (now v) ⌝ }
+        × Small tableLimit (now lines) × Small 1048576 (now v) × RowsTo m (now lines) ⌝ }
     ensures { λ _. ⌜ now (w .exit)
         ≡ write (now (w .entry)) 0 (λ (x : ℕ). dot 6 (rowOf (now (v .entry)) (x / 6)) (rowOf (now (lines .entry)) (x % 6))) (rows * 6) ⌝ }
 {
-    for x in 0..rows * 6 {
-        let y = forms::dot_rows(v, x / 6, lines, x % 6);
-        w[x] = y;
+    for t in 0..rows {
+        row_numbers(w, t, lines, v, t, m);
     }
 }
 
-// The raw terms of the image of s: own terms, then pairs. How many rows they fill.
+// The raw terms of the image of s under a step to m coordinates, from Q + Qᵀ and the lines: own terms, then pairs. How many rows they fill.
 pub fn all_rows(
     w: &mut [i64],
     e: &mut [u8],
-    a: &[i32; 36],
-    q: &[i32; 216],
+    lines: &[i64; 36],
+    both: &[i64; 216],
     s: PolyZonotope,
+    m: usize,
 ) -> usize
-    requires { ⌜ (5160 ≤ length (now w)) × (10320 ≤ length (now e)) × Small 32768 (now a) × Small 32768 (now q) × InSpan s ⌝ }
-    ensures { λ r. ⌜ RawTerms (now (a .entry)) (now (q .entry)) s (now (e .entry)) (now (w .entry)) r (now (e .exit)) (now (w .exit)) ⌝ }
+    requires { ⌜ (5160 ≤ length (now w)) × (10320 ≤ length (now e)) × (m ≤ 6) × Small tableLimit (now lines) × Small bothLimit (now both)
+        × RowsTo m (now lines) × RowsTo (m * 6) (now both) × InSpan s ⌝ }
+    ensures { λ r. ⌜ RawTerms (now (lines .entry)) (now (both .entry)) s (now (e .entry)) (now (w .entry)) r (now (e .exit)) (now (w .exit)) ⌝ }
 {
-    let centre = s.centre;
     let coefficients = s.coefficients;
     let exponents = s.exponents;
     let h = s.terms;
-    let lines = forms::lines(a, q, &centre);
-    let columns = forms::columns(q, &coefficients);
     let table = pairs::pairs();
-    linear_numbers(w, &lines, &coefficients, h);
+    linear_numbers(w, lines, &coefficients, h, m);
     copy_exponents(e, &exponents, h * 12);
-    pair_rows(w, e, &table, &columns, &coefficients, &exponents, h)
+    pair_rows(w, e, &table, both, &coefficients, &exponents, h, m)
 }
 
 // The first n exponents.
@@ -62,39 +64,63 @@ fn copy_exponents(e: &mut [u8], exponents: &[u8; 480], n: usize)
     }
 }
 
-// The number of terms s and t at coordinate i, halved for a term with itself.
-fn pair_number(
-    columns: &[i64; 1440],
-    coefficients: &[i32; 240],
-    s: usize,
-    t: usize,
-    i: usize,
-) -> i64
-    requires { ⌜ (s < 40) × (t < 40) × (i < 6) × Small tableLimit (now columns) × Small 1048576 (now coefficients) ⌝ }
-    ensures { λ r. ⌜ r ≡ pairNumber (now (columns .entry)) (now (coefficients .entry)) s t i ⌝ }
+// In row r of w the dot products of row t of v with the rows of a table, of which only the first m aren't 0.
+fn row_numbers(w: &mut [i64], r: usize, table: &[i64], v: &[i32], t: usize, m: usize)
+    requires { ⌜ (r < 860) × (r * 6 + 6 ≤ length (now w)) × (length (now table) ≡ 36) × (t < 40) × (t * 6 + 6 ≤ length (now v))
+        × Small tableLimit (now table) × Small 1048576 (now v) × RowsTo m (now table) ⌝ }
+    ensures { λ _. ⌜ now (w .exit)
+        ≡ write (now (w .entry)) (r * 6) (λ (i : ℕ). dot 6 (rowOf (now (v .entry)) t) (rowOf (now (table .entry)) i)) 6 ⌝ }
 {
-    let d = forms::dot_rows(coefficients, s, columns, 40 * i + t);
-    if s == t { whole::half_down(d) } else { d }
+    for i in 0..6 {
+        let y = number(table, i, v, t, m);
+        w[r * 6 + i] = y;
+    }
 }
 
-// The numbers of terms s and t in row r.
+// The dot product of row t of v with row i of a table.
+fn number(table: &[i64], i: usize, v: &[i32], t: usize, m: usize) -> i64
+    requires { ⌜ (i < 6) × (length (now table) ≡ 36) × (t < 40) × (t * 6 + 6 ≤ length (now v))
+        × Small tableLimit (now table) × Small 1048576 (now v) × RowsTo m (now table) ⌝ }
+    ensures { λ r. ⌜ r ≡ dot 6 (rowOf (now (v .entry)) t) (rowOf (now (table .entry)) i) ⌝ }
+{
+    if i < m {
+        forms::dot_rows(v, t, table, i)
+    } else {
+        0
+    }
+}
+
+// Half of each number of row r, rounded down.
+fn halve_row(w: &mut [i64], r: usize)
+    requires { ⌜ (r < 860) × (r * 6 + 6 ≤ length (now w)) ⌝ }
+    ensures { λ _. ⌜ now (w .exit) ≡ write (now (w .entry)) (r * 6) (λ (i : ℕ). half (at (now (w .entry)) (r * 6 + i))) 6 ⌝ }
+{
+    for i in 0..6 {
+        let x = w[r * 6 + i];
+        w[r * 6 + i] = whole::half_down(x);
+    }
+}
+
+// In row r the numbers of terms s and t, from the column of s, halved for a term with itself.
 fn pair_numbers(
     w: &mut [i64],
     r: usize,
-    columns: &[i64; 1440],
+    column: &[i64],
     coefficients: &[i32; 240],
     s: usize,
     t: usize,
+    m: usize,
 )
-    requires { ⌜ (r < 860) × (r * 6 + 6 ≤ length (now w)) × (s < 40) × (t < 40)
-        × Small tableLimit (now columns) × Small 1048576 (now coefficients) ⌝ }
+    requires { ⌜ (r < 860) × (r * 6 + 6 ≤ length (now w)) × (length (now column) ≡ 36) × (t < 40)
+        × Small tableLimit (now column) × Small 1048576 (now coefficients) × RowsTo m (now column) ⌝ }
     ensures { λ _. ⌜ now (w .exit)
-        ≡ write (now (w .entry)) (r * 6) (pairNumber (now (columns .entry)) (now (coefficients .entry)) s t) 6 ⌝ }
+        ≡ write (now (w .entry)) (r * 6) (pairNumber (now (column .entry)) (now (coefficients .entry)) s t) 6 ⌝ }
 {
-    for i in 0..6 {
-        let y = pair_number(columns, coefficients, s, t, i);
-        w[r * 6 + i] = y;
+    row_numbers(w, r, column, coefficients, t, m);
+    if s != t {
+        return;
     }
+    halve_row(w, r);
 }
 
 // The exponents of terms s and t, added, in row r.
@@ -107,21 +133,46 @@ fn pair_exponents(e: &mut [u8], r: usize, exponents: &[u8; 480], s: usize, t: us
     }
 }
 
-// The rows of the pairs of the first h terms, after h rows; how many rows there are then.
+// The column of term s, where that of term `last` stands: the pairs of a term follow one another and share it.
+fn column_of(
+    column: &mut [i64],
+    last: usize,
+    both: &[i64; 216],
+    coefficients: &[i32; 240],
+    s: usize,
+    m: usize,
+)
+    requires { ⌜ (m ≤ 6) × (s < 40) × (now column ≡ columnTable (now both) (now coefficients) last)
+        × Small bothLimit (now both) × Small 1048576 (now coefficients) × RowsTo (m * 6) (now both) ⌝ }
+    ensures { λ _. ⌜ now (column .exit) ≡ columnTable (now (both .entry)) (now (coefficients .entry)) s ⌝ }
+{
+    if s == last {
+        return;
+    }
+    forms::column(column, both, coefficients, s, m);
+}
+
+// The rows of the pairs of the first h terms, after h rows; how many rows there are then. From a place of the table whose second term isn't
+// used the loop goes on with the next row of the table.
 fn pair_rows(
     w: &mut [i64],
     e: &mut [u8],
     table: &[u16; 820],
-    columns: &[i64; 1440],
+    both: &[i64; 216],
     coefficients: &[i32; 240],
     exponents: &[u8; 480],
     h: usize,
+    m: usize,
 ) -> usize
-    requires { ⌜ (h ≤ 40) × (5160 ≤ length (now w)) × (10320 ≤ length (now e)) × (now table ≡ pairCodes 40)
-        × Small tableLimit (now columns) × Small 1048576 (now coefficients) × Low (now exponents) × Bounded rawLimit (h * 6) (now w) ⌝ }
-    ensures { λ r. ⌜ Added (now (columns .entry)) (now (coefficients .entry)) (now (exponents .entry)) h (now (e .entry)) (now (w .entry)) r
+    requires { ⌜ (h ≤ 40) × (m ≤ 6) × (5160 ≤ length (now w)) × (10320 ≤ length (now e)) × (now table ≡ pairCodes 40)
+        × Small bothLimit (now both) × Small 1048576 (now coefficients) × Low (now exponents) × Bounded rawLimit (h * 6) (now w)
+        × RowsTo (m * 6) (now both) ⌝ }
+    ensures { λ r. ⌜ Added (now (both .entry)) (now (coefficients .entry)) (now (exponents .entry)) h (now (e .entry)) (now (w .entry)) r
         (now (e .exit)) (now (w .exit)) ⌝ }
 {
+    let mut column = [0i64; 36];
+    forms::column(&mut column, both, coefficients, 0, m);
+    let mut last = 0;
     let mut r = h;
     let mut k = 0;
     while k < 820 {
@@ -129,12 +180,14 @@ fn pair_rows(
         let first = c / 40;
         let second = c % 40;
         if second < h {
-            pair_numbers(w, r, columns, coefficients, first, second);
+            column_of(&mut column, last, both, coefficients, first, m);
+            last = first;
+            pair_numbers(w, r, &column, coefficients, first, second, m);
             pair_exponents(e, r, exponents, first, second);
             r += 1;
             k += 1;
         } else {
-            k += 1;
+            k += 40 - second;
         }
     }
     r

@@ -3,7 +3,7 @@ use mathlib.Core.List.{List, [], _∷_, _++_}
 use mathlib.Core.Path.{_≡_, refl, sym, ap, ap₂, _∙_}
 use Prim.Native.Nat.{ℕ, zero, suc, _+_, _-_, _<_, _≤_}
 use native.Mathlib.Decide.{decLt}
-use native.Mathlib.Nat.{zero-add, suc-add, le-of-suc-le-suc}
+use native.Mathlib.Nat.{zero-add, add-zero, add-suc, suc-add, le-of-suc-le-suc}
 use native.Mathlib.Numerals.{add-one}
 use native.Mathlib.Omega.{arith}
 use lib.ListN.{length, getD, set, take, drop, length-set, length-drop, take-append-drop}
@@ -57,6 +57,40 @@ module _ {X : Type 0} (ws : List X) (at : ℕ) where
   unfolding write
   write-after f d zero k h = refl
   write-after f d (suc n) k h = getD-set-other (write ws at f n) (at + n) k (f n) d (λ q. omega arith) ∙ write-after f d n k (omega arith)
+
+-- a loop's step over a list that is written from its start
+pub write-next : {X : Type 0} (ws : List X) (f : ℕ → X) (w : List X) (k : ℕ) (v : X) → w ≡ write ws 0 f k → v ≡ f k
+    → set w k v ≡ write ws 0 f (k + 1)
+write-next ws f w k v p q = ap (λ (i : ℕ). set w i v) (sym (zero-add k)) ∙ write-again ws 0 f w k v p q
+
+-- a run that follows another continues it
+pub write-on : {X : Type 0} (ws : List X) (at n : ℕ) (f g : ℕ → X) (m : ℕ) → ((k : ℕ) → k < m → g k ≡ f (n + k))
+    → write (write ws at f n) (at + n) g m ≡ write ws at f (n + m)
+unfolding write
+write-on ws at n f g zero h = rw (add-zero n)
+write-on ws at n f g (suc m) h =
+    let e : at + n + m ≡ at + (n + m) = omega arith in
+    rw (add-suc n m, write-on ws at n f g m (λ k l. h k (omega arith)), h m (omega arith), e)
+
+-- a run that is written again
+pub write-over : {X : Type 0} (ws : List X) (at : ℕ) (f g : ℕ → X) (d : X) (n : ℕ) → at + n ≤ length ws
+    → write (write ws at f n) at g n ≡ write ws at g n
+write-over ws at f g d n l =
+    ext-getD d (write (write ws at f n) at g n) (write ws at g n)
+    (write-length (write ws at f n) at g n ∙ write-length ws at f n ∙ sym (write-length ws at g n))
+    (λ i _. go i (decLt i at) (decLt i (at + n)))
+  where
+    go : (i : ℕ) → Dec (i < at) → Dec (i < at + n) → getD (write (write ws at f n) at g n) i d ≡ getD (write ws at g n) i d
+    go i (yes p) _ =
+        write-before (write ws at f n) at g d n i p ∙ write-before ws at f d n i p ∙ sym (write-before ws at g d n i p)
+    go i (no p) (yes q) =
+        let e : at + (i - at) ≡ i = omega arith in
+        let m : length (write ws at f n) ≡ length ws = write-length ws at f n in
+        rw (← e, write-at (write ws at f n) at g d n (i - at) (omega arith) (omega arith), write-at ws at g d n (i - at) (omega arith) l)
+    go i (no p) (no q) =
+        write-after (write ws at f n) at g d n i (omega arith)
+        ∙ write-after ws at f d n i (omega arith)
+        ∙ sym (write-after ws at g d n i (omega arith))
 
 -- a list written from end to end is a table
 pub write-all : {X : Type 0} (ws : List X) (f : ℕ → X) (d : X) (n : ℕ) → length ws ≡ n → write ws 0 f n ≡ tab n f

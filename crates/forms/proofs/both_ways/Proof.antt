@@ -1,102 +1,55 @@
--- `forms::both_ways` meets its contract: two 32-bit numbers added at 64 bits.
-use native.Mathlib.Omega.{arith}
+-- `forms::both_ways` meets its contract: each row is filled in turn.
 use borrow.Author.Needs.{needs}
-use mathlib.Core.Path.{_≡_, ap₂, _∙_}
-use lib.IntN.{ℤ, _+ℤ_}
-use mir.Syntax.{w32, w64}
-use mir.Val.{SFits, ofZ, toZ}
-use Rattle.whole.specs.AsNaturals.{as-ℕ}
-use Rattle.whole.specs.Fits.{read32, got64}
-use Rattle.forms.specs.Dot.{Form}
-use Rattle.forms.specs.Tables.{formOf}
+use native.Mathlib.Omega.{arith}
+use mathlib.Core.Path.{_≡_, ap, _∙_}
+use Prim.Native.Nat.{ℕ, _+_, _-_, _*_, _/_, _%_}
+use lib.IntN.{ℤ, pos, _+ℤ_}
+use Rattle.whole.specs.Write.{write}
+use Rattle.forms.specs.Tables.{formOf, form-place}
+use Rattle.forms.specs.Numbers.{bothTable}
+use Rattle.forms.specs.Filling.{Filling, filling-begins, filling-on, filling-ends}
 use Rattle.forms.proofs.both_ways.Statement.{statement}
 use Rattle.forms.proofs.both_ways.Tie as tie
 
-sum-fits : (a b : ℤ) → SFits w32 a → SFits w32 b → SFits w64 (a +ℤ b)
-sum-fits a b = simp as-ℕ (omega arith)
+abbrev Inv-loop : tie.InvT-loop
+Inv-loop q out₀ x₀ out x =
+    Filling 216 (λ (y : ℕ). formOf q (y / 36) (y / 6 % 6) (y % 6) +ℤ formOf q (y / 36) (y % 6) (y / 6 % 6)) out₀ (x * 6) out
 
-abbrev Q : tie.Start → Form
-Q s = formOf (s .args .q .now) (s .args .i)
+abbrev μ-loop : tie.MeasureT-loop
+μ-loop q out₀ x₀ out x = 36 - x
 
-first : (c : tie.After-widen) → toZ w64 (ofZ w64 (c .widen .result)) ≡
-    Q (c .before .before) (c .before .before .args .j) (c .before .before .args .l)
-first c = got64 (c .widen .ensures ∙ read32 _ (c .before .widen-arg .given)) (c .widen .ok)
+abbrev F : tie.Start Inv-loop μ-loop → ℕ → ℤ
+F s =
+    λ (y : ℕ). formOf (s .args .q .now) (y / 36) (y / 6 % 6) (y % 6) +ℤ formOf (s .args .q .now) (y / 36) (y % 6) (y / 6 % 6)
 
-second : (c : tie.After-widen2) →
-    let s = c .before .before .before .before in
-    toZ w64 (ofZ w64 (c .widen2 .result)) ≡ Q s (s .args .l) (s .args .j)
-second c = got64 (c .widen2 .ensures ∙ read32 _ (c .before .widen-arg2 .given)) (c .widen2 .ok)
+loop-holds : tie.Need-loop-holds Inv-loop μ-loop
+loop-holds c = filling-begins 216 (F c) _ (search needs)
 
-mul-widen : tie.Need-mul-widen
-mul-widen c = search needs
+both-row-requires : tie.Need-both-row-requires Inv-loop μ-loop
+both-row-requires c κs = search needs
 
-add-widen : tie.Need-add-widen
-add-widen c = search needs
+add-x : tie.Need-add-x Inv-loop μ-loop
+add-x c = search needs
 
-mul-widen-2 : tie.Need-mul-widen-2
-mul-widen-2 c = search needs
+loop-less : tie.Need-loop-less Inv-loop μ-loop
+loop-less c = search needs
 
-add-widen-2 : tie.Need-add-widen-2
-add-widen-2 c = search needs
+loop-again : tie.Need-loop-again Inv-loop μ-loop
+loop-again c =
+    let l = c .before .before .before in
+    let s = l .before in
+    let x = l .loop .x in
+    let e : (x / 6 * 6 + x % 6) * 6 ≡ x * 6 = omega arith in
+    let Q = formOf (s .args .q .now) in
+    filling-on 216 (F s) _ (x * 6) 6 ((x + 1) * 6) (l .loop .out) _ _ (l .loop .inv) (omega arith) (omega arith)
+    (c .both-row .ensures ∙ ap (λ (y : ℕ). write (l .loop .out) y (λ (k : ℕ). Q (x / 6) (x % 6) k +ℤ Q (x / 6) k (x % 6)) 6) e)
+    (form-place (λ (i j k : ℕ). Q i j k +ℤ Q i k j) x)
 
-mul-widen-3 : tie.Need-mul-widen-3
-mul-widen-3 c = search needs
-
-element-copy-out-widen : tie.Need-element-copy-out-widen
-element-copy-out-widen c = search needs
-
-widen-requires : tie.Need-widen-requires
-widen-requires c κs = search needs
-
-mul-widen-4 : tie.Need-mul-widen-4
-mul-widen-4 c = search needs
-
-add-widen-3 : tie.Need-add-widen-3
-add-widen-3 c = search needs
-
-mul-widen-5 : tie.Need-mul-widen-5
-mul-widen-5 c = search needs
-
-add-widen-4 : tie.Need-add-widen-4
-add-widen-4 c = search needs
-
-mul-widen-6 : tie.Need-mul-widen-6
-mul-widen-6 c = search needs
-
-element-copy-out-widen-2 : tie.Need-element-copy-out-widen-2
-element-copy-out-widen-2 c = search needs
-
-widen-requires-2 : tie.Need-widen-requires-2
-widen-requires-2 c κs = search needs
-
-add-requires : tie.Need-add-requires
-add-requires c κs =
-    let x = c .before .before in
-    let s = x .before .before in
-    rw (first x, second c)
-    (sum-fits (Q s (s .args .j) (s .args .l)) (Q s (s .args .l) (s .args .j)) (record { sfits = x .before .widen-arg .given })
-    (record { sfits = c .before .widen-arg2 .given }))
-
-returns : tie.Need-returns
-returns c = got64 (c .add .ensures ∙ ap₂ _+ℤ_ (first (c .before .before .before)) (second (c .before))) (c .add .ok)
+returns : tie.Need-returns Inv-loop μ-loop
+unfolding bothTable
+returns c = let l = c .before in filling-ends 216 (F (l .before)) _ (pos 0) (l .loop .x * 6) (l .loop .out) (l .loop .inv) (omega arith)
 
 pub both-ways-spec : {M : Type 1} → statement M
 both-ways-spec =
     tie.close
-    (tie.spec
-    mul-widen
-    add-widen
-    mul-widen-2
-    add-widen-2
-    mul-widen-3
-    element-copy-out-widen
-    widen-requires
-    mul-widen-4
-    add-widen-3
-    mul-widen-5
-    add-widen-4
-    mul-widen-6
-    element-copy-out-widen-2
-    widen-requires-2
-    add-requires
-    returns)
+    (tie.spec Inv-loop μ-loop loop-holds both-row-requires add-x loop-less loop-again returns)

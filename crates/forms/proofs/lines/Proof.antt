@@ -1,24 +1,25 @@
 -- `forms::lines` meets its contract: each place is filled in turn.
 use borrow.Author.Needs.{needs}
 use native.Mathlib.Omega.{arith}
-use Prim.Native.Nat.{ℕ, _-_, _/_, _%_}
-use lib.IntN.{ℤ, pos}
+use Prim.Native.Nat.{ℕ, _-_}
+use lib.IntN.{ℤ, pos, _+ℤ_, _*ℤ_}
 use Rattle.whole.specs.Fits.{got64}
-use Rattle.forms.specs.Line.{line}
-use Rattle.forms.specs.Tables.{rowOf, formOf}
+use Rattle.model.specs.Set.{at}
+use Rattle.model.specs.Step.{dot}
+use Rattle.forms.specs.Tables.{rowOf}
 use Rattle.forms.specs.Numbers.{lineTable}
 use Rattle.forms.specs.Filling.{Filling, filling-begins, filling-again, filling-ends}
 use Rattle.forms.proofs.lines.Statement.{statement}
 use Rattle.forms.proofs.lines.Tie as tie
 
 abbrev Inv-loop : tie.InvT-loop
-Inv-loop a q k out₀ x₀ out x = Filling 36 (λ (y : ℕ). line 6 (rowOf a (y / 6)) (formOf q (y / 6)) (rowOf k 0) (y % 6)) out₀ x out
+Inv-loop a both k out₀ x₀ out x = Filling 36 (λ (y : ℕ). dot 6 (rowOf k 0) (rowOf both y) +ℤ pos 4096 *ℤ at a y) out₀ x out
 
 abbrev μ-loop : tie.MeasureT-loop
-μ-loop a q k out₀ x₀ out x = 36 - x
+μ-loop a both k out₀ x₀ out x = 36 - x
 
 abbrev F : tie.Start Inv-loop μ-loop → ℕ → ℤ
-F s = λ (y : ℕ). line 6 (rowOf (s .args .a .now) (y / 6)) (formOf (s .args .q .now) (y / 6)) (rowOf (s .args .k .now) 0) (y % 6)
+F s = λ (y : ℕ). dot 6 (rowOf (s .args .k .now) 0) (rowOf (s .args .both .now) y) +ℤ pos 4096 *ℤ at (s .args .a .now) y
 
 loop-holds : tie.Need-loop-holds Inv-loop μ-loop
 loop-holds c = filling-begins 36 (F c) _ (search needs)

@@ -2,6 +2,7 @@
 use borrow.Author.Needs.{needs}
 use Rattle.model.specs.Step.{Step}
 use Rattle.forms.specs.Wide.{StepShaped, constant-small, linear-small, quadratic-small}
+use Rattle.forms.specs.RowsTo.{linear-to, quadratic-to}
 use Rattle.image.specs.StepAccepted.{stepOf, shaped, entries-small}
 use Rattle.image.specs.Imaged.{imaged-narrow}
 use Rattle.image.proofs.of_step.Statement.{statement}
@@ -30,9 +31,12 @@ of-wide-step-requires c κs =
     let k = a .before in
     let z = k .before .before in
     let b = entries-small (P z) (z .pre .0) in (
+      shape z .rows,
       rw (k .wide-constant .ensures) (constant-small 1048576 (z .args .c .now) (b .0)),
       rw (a .wide-linear .ensures) (linear-small 32768 (z .args .n) (z .args .a .now) (b .1)),
       rw (q .wide-quadratic .ensures) (quadratic-small 32768 (z .args .n) (z .args .q .now) (b .2)),
+      rw (a .wide-linear .ensures) (linear-to (P z) (shape z)),
+      rw (q .wide-quadratic .ensures) (quadratic-to (P z) (shape z)),
       z .pre .1,
       z .pre .2,
       z .pre .3,

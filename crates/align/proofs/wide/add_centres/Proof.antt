@@ -6,8 +6,7 @@ use lib.IntN.{pos, _+ℤ_}
 use lib.ListN.{getD}
 use borrow.Author.Needs.{needs}
 use Rattle.whole.specs.Fits.{read32, got64}
-use Rattle.whole.specs.Write.{write, write-none, write-all}
-use Rattle.align.specs.Runs.{write-next}
+use Rattle.whole.specs.Write.{write, write-none, write-next, write-all}
 use Rattle.align.proofs.wide.add_centres.Statement.{statement}
 use Rattle.align.proofs.wide.add_centres.Tie as tie
 

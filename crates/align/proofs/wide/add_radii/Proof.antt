@@ -4,8 +4,7 @@ use Prim.Native.Nat.{_+_, _-_, _≤_}
 use native.Mathlib.Omega.{arith}
 use lib.ListN.{getD}
 use borrow.Author.Needs.{needs}
-use Rattle.whole.specs.Write.{write, write-none, write-all}
-use Rattle.align.specs.Runs.{write-next}
+use Rattle.whole.specs.Write.{write, write-none, write-next, write-all}
 use Rattle.align.proofs.wide.add_radii.Statement.{statement}
 use Rattle.align.proofs.wide.add_radii.Tie as tie
 

@@ -7,8 +7,8 @@ use borrow.Author.Count.{below-more}
 use lib.ListN.{getD}
 use lib.IntN.{ℤ, pos, natAbs}
 use Rattle.whole.specs.Fits.{read32}
-use Rattle.whole.specs.Write.{write, write-none, write-all}
-use Rattle.arrays.specs.Columns.{write-next, tab-under}
+use Rattle.whole.specs.Write.{write, write-none, write-next, write-all}
+use Rattle.arrays.specs.Columns.{tab-under}
 use Rattle.arrays.proofs.span.add_sizes.Statement.{statement}
 use Rattle.arrays.proofs.span.add_sizes.Tie as tie
 

@@ -1,4 +1,4 @@
--- `image::remainder::radii` meets its contract: the lines, the sums D, w and r, and the radii from them.
+-- `image::remainder::radii` meets its contract: the sums D, w and r, and the radii from them.
 use native.Mathlib.Omega.{arith}
 use borrow.Author.Needs.{needs}
 use mathlib.Core.List.{List}
@@ -6,12 +6,9 @@ use mathlib.Core.Path.{sym}
 use lib.IntN.{ℤ}
 use lib.ListN.{replicate}
 use Rattle.whole.specs.Tab.{all}
-use Rattle.rows.specs.Rows.{Small}
 use Rattle.zonotope.specs.declared.PolyZonotope.{PolyZonotope}
-use Rattle.forms.specs.Numbers.{tableLimit, lines-small}
 use Rattle.raw.specs.Accepted.{InSpan, RowsSized}
 use Rattle.raw.specs.Unused.{counts-in}
-use Rattle.raw.specs.Limits.{centre-small}
 use Rattle.image.specs.Radii.{terms-below, independent-below, radii-below, terms-room, generators-room, no-rows-room, new-radii}
 use Rattle.image.proofs.remainder.radii.Statement.{statement}
 use Rattle.image.proofs.remainder.radii.Tie as tie
@@ -19,9 +16,6 @@ use Rattle.image.proofs.remainder.radii.Tie as tie
 module _ (z : tie.Start) where
   abbrev S : PolyZonotope
   S = z .args .s
-
-  abbrev A : List ℤ
-  A = z .args .a .now
 
   abbrev Q : List ℤ
   Q = z .args .q .now
@@ -32,23 +26,12 @@ module _ (z : tie.Start) where
   sized : RowsSized S
   sized = record { centre = search needs; exponents = search needs; coefficients = search needs; vectors = search needs }
 
-  centre-ok : Small 1048576 (S .centre)
-  centre-ok = centre-small S ok sized
-
-lines-ok : (c : tie.After-lines) → Small tableLimit (c .lines .result)
-lines-ok c =
-    let z = c .before .before .before .before .before .before in
-    rw (c .lines .ensures) (lines-small (A z) (Q z) (S z .centre) (z .pre .0) (z .pre .1) (centre-ok z))
-
-lines-requires : tie.Need-lines-requires
-lines-requires c κs = let z = c .before .before .before .before .before in (z .pre .0, z .pre .1, centre-ok z)
-
 slice-aggregate-spreads : tie.Need-slice-aggregate-spreads
 slice-aggregate-spreads c = search needs
 
 spreads-requires : tie.Need-spreads-requires
 spreads-requires c κs =
-    let z = c .before .before .before .before .before .before .before .before in
+    let z = c .before .before .before .before .before in
     let b = counts-in (S z) (ok z) in
     (b .2, omega (arith, b, sized z .coefficients), terms-room (S z) (ok z))
 
@@ -57,28 +40,26 @@ slice-aggregate-spreads-2 c = search needs
 
 spreads-requires-2 : tie.Need-spreads-requires-2
 spreads-requires-2 c κs =
-    let z = c .before .before .before .before .before .before .before .before .before .before .before in
+    let z = c .before .before .before .before .before .before .before .before in
     (search needs, search needs, no-rows-room (S z) (ok z))
 
 slice-aggregate-spreads-3 : tie.Need-slice-aggregate-spreads-3
-slice-aggregate-spreads-3 c = let z = c .before .before .before .before .before .before .before .before .before .before .before .before
-    .before in sym (sized z .vectors)
+slice-aggregate-spreads-3 c = let z = c .before .before .before .before .before .before .before .before .before .before in sym (sized z .vectors)
 
 spreads-requires-3 : tie.Need-spreads-requires-3
 spreads-requires-3 c κs =
-    let z = c .before .before .before .before .before .before .before .before .before .before .before .before .before .before in
+    let z = c .before .before .before .before .before .before .before .before .before .before .before in
     let b = counts-in (S z) (ok z) in
     (omega arith, omega (arith, b, sized z .vectors), generators-room (S z) (ok z))
 
 radii-from-requires : tie.Need-radii-from-requires
 unfolding all
 radii-from-requires c κs =
-    let r = c .before .before .before .before in
+    let r = c .before .before .before in
     let w = r .before .before .before in
     let d = w .before .before .before in
-    let l = d .before .before .before in
-    let z = l .before .before .before .before .before .before in (
-      lines-ok l,
+    let z = d .before .before .before .before .before .before in (
+      z .pre .0,
       z .pre .1,
       rw (d .spreads .ensures) (terms-below (S z) (ok z) (replicate 6 0) tt),
       rw (r .spreads3 .ensures)
@@ -90,21 +71,18 @@ radii-from-requires c κs =
 returns : tie.Need-returns
 unfolding all
 returns c =
-    let r = c .before .before .before .before .before in
+    let r = c .before .before .before .before in
     let w = r .before .before .before in
     let d = w .before .before .before in
-    let l = d .before .before .before in
-    let z = l .before .before .before .before .before .before in
-    new-radii (S z) (ok z) (replicate 6 0) tt (A z) (Q z) (l .lines .result) (d .spreads .result) (r .spreads3 .result)
-    (w .spreads2 .result) (z .args .counts .now)
-    (l .lines .ensures) (d .spreads .ensures) (r .spreads3 .ensures) (w .spreads2 .ensures) (z .pre .1) (lines-ok l) (z .pre .3) _
-    (c .radii-from .ensures)
+    let z = d .before .before .before .before .before .before in
+    new-radii (S z) (ok z) (replicate 6 0) tt (Q z) (z .args .lines .now) (d .spreads .result) (r .spreads3 .result)
+    (w .spreads2 .result) (z .args .counts .now) (d .spreads .ensures) (r .spreads3 .ensures) (w .spreads2 .ensures) (z .pre .1)
+    (z .pre .0) (z .pre .3) _ (c .radii-from .ensures)
 
 pub radii-spec : {M : Type 1} → statement M
 radii-spec =
     tie.close
     (tie.spec
-    lines-requires
     slice-aggregate-spreads
     spreads-requires
     slice-aggregate-spreads-2

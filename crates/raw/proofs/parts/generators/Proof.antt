@@ -1,14 +1,13 @@
--- `raw::parts::generators` meets its contract: the numbers of the used rows, and 0 in the others.
+-- `raw::parts::generators` meets its contract: the rows are written into zeros.
 use native.Mathlib.Omega.{arith}
 use borrow.Author.Needs.{needs}
 use mathlib.Core.Path.{refl}
 use Rattle.whole.specs.Tab.{all}
 use Rattle.rows.specs.Rows.{Small}
 use Rattle.zonotope.specs.declared.PolyZonotope.{PolyZonotope}
-use Rattle.forms.specs.Numbers.{tableLimit, lineTable, lines-small}
 use Rattle.raw.specs.Accepted.{InSpan, RowsSized}
 use Rattle.raw.specs.Unused.{counts-in}
-use Rattle.raw.specs.Limits.{centre-small, vectors-small}
+use Rattle.raw.specs.Limits.{vectors-small}
 use Rattle.raw.specs.Parts.{raw-generators}
 use Rattle.raw.proofs.parts.generators.Statement.{statement}
 use Rattle.raw.proofs.parts.generators.Tie as tie
@@ -23,14 +22,8 @@ module _ (z : tie.Start) where
   sized : RowsSized S
   sized = record { centre = search needs; exponents = search needs; coefficients = search needs; vectors = search needs }
 
-  lines-ok : Small tableLimit (lineTable (z .args .a .now) (z .args .q .now) (S .centre))
-  lines-ok = lines-small (z .args .a .now) (z .args .q .now) (S .centre) (z .pre .0) (z .pre .1) (centre-small S ok sized)
-
   vectors-ok : Small 1048576 (S .vectors)
   vectors-ok = vectors-small S ok sized
-
-lines-requires : tie.Need-lines-requires
-lines-requires c κs = let z = c .before .before .before in (z .pre .0, z .pre .1, centre-small (S z) (ok z) (sized z))
 
 slice-aggregate-linear-numbers : tie.Need-slice-aggregate-linear-numbers
 slice-aggregate-linear-numbers c = search needs
@@ -40,25 +33,21 @@ slice-aggregate-linear-numbers-2 c = search needs
 
 linear-numbers-requires : tie.Need-linear-numbers-requires
 linear-numbers-requires c κs =
-    let l = c .before .before .before in
-    let z = l .before .before .before .before in
+    let z = c .before .before .before in
     let b = counts-in (S z) (ok z) in
-    (omega arith, omega arith, omega (arith, sized z .vectors), rw (l .lines .ensures) (lines-ok z), vectors-ok z)
+    (omega arith, omega arith, omega (arith, sized z .vectors), z .pre .0, vectors-ok z, z .pre .1)
 
 returns : tie.Need-returns
 unfolding all
 returns c =
     let n = c .before in
-    let l = n .before .before .before .before in
-    let z = l .before .before .before .before in
-    raw-generators (z .args .a .now) (z .args .q .now) (S z) (ok z) (vectors-ok z) (lines-ok z) (l .lines .result) _ _ (l .lines .ensures)
-    refl tt (n .linear-numbers .ensures)
+    let z = n .before .before .before .before in
+    raw-generators (z .args .lines .now) (S z) (ok z) (vectors-ok z) (z .pre .0) _ _ refl tt (n .linear-numbers .ensures)
 
 pub generators-spec : {M : Type 1} → statement M
 generators-spec =
     tie.close
     (tie.spec
-    lines-requires
     slice-aggregate-linear-numbers
     slice-aggregate-linear-numbers-2
     linear-numbers-requires

@@ -1,74 +1,39 @@
--- `raw::terms::pair_numbers` meets its contract: each place of the row is written in turn.
+-- `raw::terms::pair_numbers` meets its contract, by its test.
 use borrow.Author.Needs.{needs}
 use native.Mathlib.Omega.{arith}
-use Prim.Native.Nat.{ℕ, _-_, _*_}
-use lib.IntN.{ℤ}
-use Rattle.whole.specs.Fits.{got64}
-use Rattle.forms.specs.Filling.{Writing, writing-begins, writing-again, writing-ends}
-use Rattle.raw.specs.PairRows.{pairNumber}
+use Rattle.raw.specs.PairRows.{pair-written, square-written}
 use Rattle.raw.proofs.terms.pair_numbers.Statement.{statement}
 use Rattle.raw.proofs.terms.pair_numbers.Tie as tie
 
-abbrev Inv-loop : tie.InvT-loop
-Inv-loop w₀ r columns coefficients s t i₀ w i = Writing w₀ (r * 6) (pairNumber columns coefficients s t) 6 i w
+row-numbers-requires : tie.Need-row-numbers-requires
+row-numbers-requires c κs = search needs
 
-abbrev μ-loop : tie.MeasureT-loop
-μ-loop w₀ r columns coefficients s t i₀ w i = 6 - i
-
-abbrev F : tie.Start Inv-loop μ-loop → ℕ → ℤ
-F s = pairNumber (s .args .columns .now) (s .args .coefficients .now) (s .args .s) (s .args .t)
-
-loop-holds : tie.Need-loop-holds Inv-loop μ-loop
-loop-holds c = writing-begins _ (c .args .r * 6) (F c) 6
-
-pair-number-requires : tie.Need-pair-number-requires Inv-loop μ-loop
-pair-number-requires c κs = search needs
-
-mul-y : tie.Need-mul-y Inv-loop μ-loop
-mul-y c = search needs
-
-add-y : tie.Need-add-y Inv-loop μ-loop
-add-y c = search needs
-
-mul-y-2 : tie.Need-mul-y-2 Inv-loop μ-loop
-mul-y-2 c = search needs
-
-slice-set-from-y : tie.Need-slice-set-from-y Inv-loop μ-loop
-slice-set-from-y c = search needs
-
-add-i : tie.Need-add-i Inv-loop μ-loop
-add-i c = search needs
-
-loop-less : tie.Need-loop-less Inv-loop μ-loop
-loop-less c = search needs
-
-loop-again : tie.Need-loop-again Inv-loop μ-loop
-loop-again c =
-    let l = c .before .before in
-    writing-again _ (l .before .args .r * 6) (F (l .before)) 6 (l .loop .i) (l .loop .w) _ (l .loop .inv) (omega arith)
-    (got64 (c .pair-number .ensures) (c .pair-number .ok))
-
-same-length : tie.Need-same-length Inv-loop μ-loop
+same-length : tie.Need-same-length
 same-length c = search needs
 
-returns : tie.Need-returns Inv-loop μ-loop
-returns c = let l = c .before in writing-ends _ (l .before .args .r * 6) (F (l .before)) 6 (l .loop .i) (l .loop .w) (l .loop .inv)
-    (omega arith)
+returns : tie.Need-returns
+returns c =
+    let n = c .before .before in
+    let s = n .before .before .before in
+    pair-written (s .args .column .now) (s .args .coefficients .now) (s .args .w .now) _ (s .args .r) (s .args .s) (s .args .t)
+    (n .row-numbers .ensures) (c .if1 .taken)
+
+halve-row-requires : tie.Need-halve-row-requires
+halve-row-requires c κs = search needs
+
+same-length-2 : tie.Need-same-length-2
+same-length-2 c = search needs
+
+returns-2 : tie.Need-returns-2
+returns-2 c =
+    let h = c .before in
+    let f = h .before .before in
+    let n = f .before .before in
+    let s = n .before .before .before in
+    square-written (s .args .column .now) (s .args .coefficients .now) (s .args .w .now) _ (s .args .r) (s .args .s) (s .args .t)
+    (n .row-numbers .ensures) _ (f .if1 .left) (s .pre .1) (h .halve-row .ensures)
 
 pub pair-numbers-spec : {M : Type 1} → statement M
 pair-numbers-spec =
     tie.close
-    (tie.spec
-    Inv-loop
-    μ-loop
-    loop-holds
-    pair-number-requires
-    mul-y
-    add-y
-    mul-y-2
-    slice-set-from-y
-    add-i
-    loop-less
-    loop-again
-    same-length
-    returns)
+    (tie.spec row-numbers-requires same-length returns halve-row-requires same-length-2 returns-2)

@@ -4,8 +4,7 @@ use native.Mathlib.Omega.{arith}
 use mathlib.Core.Path.{_≡_, refl, sym, ap, _∙_}
 use Prim.Native.Nat.{_+_, _-_, _≤_}
 use lib.ListN.{length, getD}
-use Rattle.whole.specs.Write.{write, write-none}
-use Rattle.align.specs.Runs.{write-next}
+use Rattle.whole.specs.Write.{write, write-none, write-next}
 use Rattle.summing.specs.Disturb.{added}
 use Rattle.summing.proofs.disturbance.add_radii.Statement.{statement}
 use Rattle.summing.proofs.disturbance.add_radii.Tie as tie

@@ -7,8 +7,7 @@ use lib.ListN.{length, getD, length-set}
 use lib.IntN.{pos}
 use Rattle.whole.specs.Fits.{got64, read32}
 use Rattle.whole.specs.Tab.{tab-getD}
-use Rattle.whole.specs.Write.{write, write-none, write-all}
-use Rattle.align.specs.Runs.{write-next}
+use Rattle.whole.specs.Write.{write, write-none, write-next, write-all}
 use Rattle.summing.proofs.reduction.widen_numbers.Statement.{statement}
 use Rattle.summing.proofs.reduction.widen_numbers.Tie as tie
 

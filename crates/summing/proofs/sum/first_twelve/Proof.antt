@@ -4,8 +4,7 @@ use native.Mathlib.Omega.{arith}
 use mathlib.Core.Path.{_≡_, refl, sym, ap, _∙_}
 use Prim.Native.Nat.{_-_, _≤_}
 use lib.ListN.{getD}
-use Rattle.whole.specs.Write.{write, write-none, write-all}
-use Rattle.align.specs.Runs.{write-next}
+use Rattle.whole.specs.Write.{write, write-none, write-next, write-all}
 use Rattle.summing.proofs.sum.first_twelve.Statement.{statement}
 use Rattle.summing.proofs.sum.first_twelve.Tie as tie
 

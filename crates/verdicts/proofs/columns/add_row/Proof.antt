@@ -9,9 +9,8 @@ use mir.Syntax.{w32, w64}
 use mir.Val.{toZ, ofZ}
 use Rattle.whole.specs.Size.{abs-add}
 use Rattle.whole.specs.Fits.{read32, read64, got64, fits-abs, abs-fits}
-use Rattle.whole.specs.Write.{write, write-none, write-all}
+use Rattle.whole.specs.Write.{write, write-none, write-next, write-all}
 use Rattle.model.specs.Set.{at}
-use Rattle.arrays.specs.Columns.{write-next}
 use Rattle.verdicts.specs.Ends.{extreme, extreme-size, tab-small}
 use Rattle.verdicts.proofs.columns.add_row.Statement.{statement}
 use Rattle.verdicts.proofs.columns.add_row.Tie as tie
