@@ -4,10 +4,12 @@ ghost use mathlib.Core.Path.{_≡_};
 ghost use Prim.Native.Nat.{ℕ, _+_, _*_, _/_, _%_, _≤_, _<_};
 ghost use lib.IntN.{pos, _+ℤ_, _*ℤ_};
 ghost use lib.ListN.{length};
+ghost use Rattle.whole.specs.Tab.{tab};
 ghost use Rattle.whole.specs.Write.{write};
 ghost use Rattle.rows.specs.Rows.{Small};
 ghost use Rattle.model.specs.Set.{at};
 ghost use Rattle.model.specs.Step.{dot};
+ghost use Rattle.model.specs.Valid.{zeros};
 ghost use Rattle.forms.specs.Tables.{rowOf, formOf};
 ghost use Rattle.forms.specs.Numbers.{bothLimit, tableLimit, bothTable, lineTable, columnTable};
 ghost use Rattle.forms.specs.RowsTo.{RowsTo};
@@ -151,6 +153,19 @@ fn both_at(q: &[i32; 216], i: usize, j: usize, l: usize) -> i64
     let x = whole::widen(q[(i * 6 + j) * 6 + l]);
     let y = whole::widen(q[(i * 6 + l) * 6 + j]);
     whole::add(x, y)
+}
+
+// Whether there are no forms: whether all of Q + Qᵀ is 0.
+pub fn no_forms(both: &[i64; 216]) -> bool
+    ensures { λ r. ⌜ r ≡ zeros (tab 216 (at (now (both .entry)))) ⌝ }
+{
+    for x in 0..216 {
+        let g = both[x];
+        if g != 0 {
+            return false;
+        }
+    }
+    true
 }
 
 // The line of each coordinate, in row i: 4096·A_j + sum over l of (Q_jl + Q_lj)·k_l.

@@ -4,11 +4,9 @@ use mathlib.Core.Path.{_≡_, refl, sym, _∙_, ap, ap₂}
 use Prim.Native.Nat.{ℕ, zero, suc, _+_, _*_, _/_, _%_, _<_, _≤_}
 use native.Mathlib.Nat.{zero-add}
 use native.Mathlib.Omega.{arith}
-use lib.Dec.{T}
-use mathlib.Core.Bool.{Bool, true, false, cond}
 use lib.IntN.{ℤ, pos}
 use lib.ListN.{length, getD}
-use Rattle.whole.specs.Round.{round, exact, inexact, exact-zero}
+use Rattle.whole.specs.Round.{round, inexact}
 use Rattle.whole.specs.Sum.{monoidℕ, sumBy, sumℕ, uptoBy, sum-++, upto-cong, upto-bound}
 use Rattle.whole.specs.Tab.{tab, tab-cong, map-tab, tab-getD, getD-tab, getD-tab-past}
 use Rattle.rows.specs.Rows.{rowsOf}
@@ -17,8 +15,10 @@ use Rattle.model.specs.Step.{Step, own, paired, pairs, raw, rawCentre, rawLinea
 use Rattle.forms.specs.Tables.{rowOf}
 use Rattle.raw.specs.Sums.{sum-tab}
 use Rattle.raw.specs.Append.{wideTerm, term-same}
+use Rattle.raw.specs.Kept.{Kept}
 use Rattle.raw.specs.Parts.{wideVectors}
-use Rattle.image.specs.Rounding.{inexactIn, inexactOf, roundTerm, round-zero, inexact-small, counted-rows}
+use Rattle.image.specs.Rounding.{inexactIn, inexactOf, roundTerm, round-zero, zero-exact, inexact-small, counted-rows}
+use Rattle.image.specs.KeptRows.{kept-counted}
 use Rattle.image.specs.Remainder.{Below, tab-below, roundedUp}
 
 -- ---- rounding and the wide form
@@ -78,13 +78,13 @@ row-counted v i h =
     zero-add (inexact (rowOf (tab 6 (at v)) 0 i)) ∙ ap inexact (ap (at (tab 6 (at v))) e ∙ getD-tab 6 (at v) (pos 0) i h)
 
 pub counted : (z : Zonotope) (e : List ℕ) (w centre vectors : List ℤ) (r g : ℕ) → r * 6 ≤ length w → length (z .generators) ≡ g → g ≤ 24
-    → rowsOf e w r ≡ map wideTerm (z .terms) → centre ≡ tab 6 (at (z .centre)) → vectors ≡ wideVectors (z .generators)
+    → Kept (rowsOf e w r) (map wideTerm (z .terms)) → centre ≡ tab 6 (at (z .centre)) → vectors ≡ wideVectors (z .generators)
     → (i : ℕ) → i < 6 → inexactOf w r centre vectors g i ≡ inexactAt z i
 unfolding inexactAt inexactOf
 counted z e w centre vectors r g l n m terms ec ev i h =
     ap₂ _+_
     (ap₂ _+_ (ap (λ (v : List ℤ). inexactIn v 1 i) ec ∙ row-counted (z .centre) i h)
-    (counted-rows e w r l i h ∙ ap (sumℕ (λ t. inexact (at (t .coefficients) i))) terms ∙ wide-terms-counted (z .terms) i h))
+    (counted-rows e w r l i h ∙ kept-counted terms i ∙ wide-terms-counted (z .terms) i h))
     (ap₂ (λ (v : List ℤ) (k : ℕ). inexactIn v k i) ev (sym n) ∙ vectors-counted (z .generators) (rw n m) i h)
 
 -- a count is at most the number of rows
@@ -114,14 +114,6 @@ same-inexact y z terms vectors n m i h centre =
     ∙ vectors-counted (z .generators) m i h)
 
 -- ---- past the step's rows nothing is counted
-zero-exact : inexact (pos 0) ≡ 0
-unfolding inexact
-zero-exact = go (exact (pos 0)) exact-zero
-  where
-    go : (b : Bool) → T b → _≡_ {A = ℕ} (cond b 0 1) 0
-    go true t = refl
-    go false t = absurd t
-
 module _ (p : Step) (z : Zonotope) (i : ℕ) (past : p .rows ≤ i) where
   none-at : (f : ℕ → ℤ) → inexact (at (tab (p .rows) f) i) ≡ 0
   none-at f = ap inexact (getD-tab-past (p .rows) f (pos 0) i past) ∙ zero-exact

@@ -1,6 +1,6 @@
 -- What `of_step` promises: rows, centre, generators and radii are those of the definition's rounded image, in wide form.
 use mathlib.Core.List.{List, map}
-use mathlib.Core.Path.{_≡_, sym, _∙_, ap, ap₂}
+use mathlib.Core.Path.{_≡_, sym, _∙_, ap, ap₂, subst}
 use Prim.Native.Nat.{ℕ, _*_, _<_, _≤_}
 use native.Mathlib.Omega.{arith}
 use lib.IntN.{ℤ, pos}
@@ -9,7 +9,7 @@ use Rattle.whole.specs.Round.{round}
 use Rattle.whole.specs.Tab.{tab, tab-cong, map-tab, length-tab, getD-tab}
 use Rattle.whole.specs.Write.{write, write-all}
 use Rattle.rows.specs.Rows.{rowsOf, Small}
-use Rattle.model.specs.Set.{Zonotope, at}
+use Rattle.model.specs.Set.{Term, Zonotope, at}
 use Rattle.model.specs.Step.{Step, raw, rawCentre, rawLinear, remainder, inexactAt, roundedRadius, rounded}
 use Rattle.zonotope.specs.Record.{view}
 use Rattle.zonotope.specs.declared.PolyZonotope.{PolyZonotope}
@@ -19,7 +19,9 @@ use Rattle.forms.specs.Wide.{wide, StepShaped}
 use Rattle.raw.specs.Accepted.{InSpan}
 use Rattle.raw.specs.Unused.{generatorAt, counts-in, same-row}
 use Rattle.raw.specs.Append.{wideTerm, Bounded, KeptFrom, kept-after}
+use Rattle.raw.specs.Kept.{Kept, kept-to}
 use Rattle.raw.specs.Terms.{RawTerms}
+use Rattle.image.specs.KeptRows.{kept-round}
 use Rattle.image.specs.Rounding.{inexactOf, roundTerm, round-small, rounded-rows, rounded-small, bounded-mono}
 use Rattle.image.specs.Remainder.{Below, roundedUp, imageLimit}
 use Rattle.image.specs.Radii.{NewRadii}
@@ -31,7 +33,7 @@ use Rattle.image.specs.declared.Image.{Image}
 -- r, with the first rows of the slices e and w, is the rounded image of s under p in wide form; e₀ and w₀ are the slices as they were
 pub record Imaged (p : Step) (s : PolyZonotope) (e₀ : List ℕ) (w₀ : List ℤ) (r : Image) (e : List ℕ) (w : List ℤ) : Type 0 where
   pub inside : r .rows ≤ 860
-  pub terms : rowsOf e w (r .rows) ≡ map wideTerm (rounded (raw p (view s)) .terms)
+  pub terms : Kept (rowsOf e w (r .rows)) (map wideTerm (rounded (raw p (view s)) .terms))
   pub centre : r .centre ≡ tab 6 (at (rounded (raw p (view s)) .centre))
   pub generators : r .generators ≡ wideVectors (rounded (raw p (view s)) .generators)
   pub radii : r .radii ≡ tab 6 (λ i. getD (rounded (raw p (view s)) .radii) i 0)
@@ -104,10 +106,9 @@ module _ (c a q lines both : List ℤ) (s : PolyZonotope) (ok : InSpan s) (eb : 
   imaged = record {
     inside = raw-terms .inside;
     terms =
-        ap (λ (v : List ℤ). rowsOf e v r) rounded-terms
-        ∙ rounded-rows e w r long
-        ∙ ap (map roundTerm) (raw-terms .rows c a q eb el)
-        ∙ round-terms (z .terms);
+        subst (λ (ts : List Term). Kept ts (map wideTerm (map roundTerm (z .terms))))
+        (sym (ap (λ (v : List ℤ). rowsOf e v r) rounded-terms ∙ rounded-rows e w r long))
+        (kept-to (kept-round (raw-terms .rows c a q eb el)) (round-terms (z .terms)));
     centre = centre-rounded ∙ ap (λ (v : List ℤ). tab 6 (λ x. round (at v x))) centre-is ∙ round-vector (z .centre);
     generators =
         vectors-rounded
@@ -159,7 +160,8 @@ module _ (p : Step) (shaped : StepShaped p) (s : PolyZonotope) (ok : InSpan s) w
   unfolding rounded raw
   imaged-narrow e₀ w₀ r e w d = record {
     inside = d .inside;
-    terms = d .terms ∙ sym (round-terms (y .terms)) ∙ ap (map roundTerm) (same-terms p shaped (view s)) ∙ round-terms (x .terms);
+    terms = kept-to (d .terms)
+        (sym (round-terms (y .terms)) ∙ ap (map roundTerm) (same-terms p shaped (view s)) ∙ round-terms (x .terms));
     centre =
         d .centre
         ∙ sym (round-vector (y .centre))

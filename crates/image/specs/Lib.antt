@@ -2,6 +2,7 @@
 --     StepAccepted  what is asked of the step
 --     Summing       a loop that sums
 --     Rounding      rows rounded in place, and the count of inexact roundings
+--     KeptRows      rows of zeros that are left out
 --     Remainder     S and the new radii
 --     Counting      six counters to which rows are added
 --     Radii         they are the definition's
@@ -11,6 +12,7 @@
 pub mod StepAccepted
 pub mod Summing
 pub mod Rounding
+pub mod KeptRows
 pub mod Remainder
 pub mod Counting
 pub mod Radii

@@ -4,6 +4,7 @@ use mathlib.Core.List.{List, map}
 use mathlib.Core.Path.{_≡_, refl, sym, _∙_, ap}
 use Prim.Native.Nat.{ℕ, _+_, _*_, _<_, _≤_}
 use native.Mathlib.Omega.{arith}
+use lib.Dec.{T}
 use lib.IntN.{ℤ, pos, natAbs, _+ℤ_, _-ℤ_, _*ℤ_}
 use lib.ListN.{length}
 use mir.Syntax.{w64}
@@ -11,7 +12,7 @@ use mir.Val.{SFits}
 use Rattle.whole.specs.AsNaturals.{as-ℕ}
 use Rattle.whole.specs.Size.{abs-add}
 use Rattle.whole.specs.Fits.{fits-abs}
-use Rattle.whole.specs.Round.{scale, round, exact, inexact, round-near, round-multiple}
+use Rattle.whole.specs.Round.{scale, round, exact, inexact, exact-zero, round-near, round-multiple}
 use Rattle.whole.specs.Sum.{monoidℕ, sumℕ, uptoℕ, upto-cong}
 use Rattle.whole.specs.Tab.{tab-cong, map-tab, getD-tab}
 use Rattle.whole.specs.Write.{write}
@@ -55,6 +56,14 @@ round-small v h = by-size (round v) v h (round-near v)
 
 pub round-zero : round (pos 0) ≡ pos 0
 round-zero = round-multiple (pos 0)
+
+pub zero-exact : inexact (pos 0) ≡ 0
+unfolding inexact
+zero-exact = go (exact (pos 0)) exact-zero
+  where
+    go : (b : Bool) → T b → _≡_ {A = ℕ} (cond b 0 1) 0
+    go true t = refl
+    go false t = absurd t
 
 -- ---- rows
 module _ (e : List ℕ) (w : List ℤ) (r : ℕ) (l : r * 6 ≤ length w) where

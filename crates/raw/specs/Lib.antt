@@ -8,6 +8,7 @@
 --     Pairs      the pair table's rule, and the pairs of the terms in use
 --     PairOrder  they are the definition's pairs, in its order
 --     Append     rows that are written after one another
+--     Kept       terms without some of zeros
 --     PairRows   the rows of the used pairs
 --     Terms      all rows hold the raw terms of the definition
 --     Parts      the centre and the generators
@@ -20,6 +21,7 @@ pub mod Limits
 pub mod Pairs
 pub mod PairOrder
 pub mod Append
+pub mod Kept
 pub mod PairRows
 pub mod Terms
 pub mod Parts

@@ -15,8 +15,12 @@ use Rattle.rows.specs.Rows.{rowsOf, Small}
 use Rattle.model.specs.Pairs.{pairCodes}
 use Rattle.model.specs.Set.{Term, at}
 use Rattle.model.specs.Step.{dot}
+use Rattle.rational.specs.Sum.{All, none, more}
 use Rattle.forms.specs.Tables.{rowOf}
 use Rattle.forms.specs.Numbers.{columnTable, bothLimit, rawLimit, tableLimit, column-small, product-small}
+use Rattle.forms.specs.RowsTo.{RowsTo, dot-past, column-to}
+use Rattle.raw.specs.Zeros.{table-zero}
+use Rattle.raw.specs.Kept.{Zero, Kept, kept-all}
 use Rattle.raw.specs.Append.{Bounded, KeptFrom, rows-more, kept-after, bounded-more}
 use Rattle.raw.specs.Pairs.{used, used-taken, used-skip, used-end, row-inside}
 
@@ -104,7 +108,7 @@ module _ (both coefficients : List ℤ) (exponents : List ℕ) (h : ℕ) (e₀ :
   pub record Added (r : ℕ) (e : List ℕ) (w : List ℤ) : Type 0 where
     pub least : h ≤ r
     pub inside : r ≤ h + 820
-    pub rows : rowsOf e w r ≡ allRows
+    pub rows : Kept (rowsOf e w r) allRows
     pub numbers : Bounded rawLimit (r * 6) w
     pub later-exponents : KeptFrom 0 (r * 12) e₀ e
     pub later-numbers : KeptFrom (pos 0) (r * 6) w₀ w
@@ -196,12 +200,47 @@ module _ (both coefficients : List ℤ) (exponents : List ℕ) (h : ℕ) (e₀ :
       let n : 820 ≡ k = omega arith in record {
         least = t .least;
         inside = omega arith;
-        rows =
-            sym (append-nil (rowsOf e w r))
+        rows = kept-all
+            (sym (append-nil (rowsOf e w r))
             ∙ ap (λ (cs : List ℕ). rowsOf e w r ++ map rowOfPair cs) (sym (used-end h))
             ∙ ap (λ (m : ℕ). rowsOf e w r ++ map rowOfPair (used h (drop m (pairCodes 40)))) n
-            ∙ t .rows;
+            ∙ t .rows);
         numbers = t .numbers;
         later-exponents = t .later-exponents;
         later-numbers = t .later-numbers;
       }
+
+  -- without forms each pair's numbers are 0
+  pair-zero : RowsTo 0 both → (s t i : ℕ) → pairNumber (columnTable both coefficients s) coefficients s t i ≡ pos 0
+  unfolding pairNumber half
+  pair-zero b s t i = go (eqb s t)
+    where
+      column : List ℤ
+      column = columnTable both coefficients s
+
+      nothing : product column coefficients t i ≡ pos 0
+      nothing = dot-past 0 (rowOf coefficients t) column (column-to 0 both coefficients s b) i (omega arith)
+
+      go : (x : Bool) → cond x (half (product column coefficients t i)) (product column coefficients t i) ≡ pos 0
+      go true = ap half nothing
+      go false = nothing
+
+  -- and their rows needn't be made
+  pub taken-no-forms : RowsTo 0 both → Bounded rawLimit (h * 6) w₀ → Added h e₀ w₀
+  taken-no-forms b n = record {
+    least = omega arith;
+    inside = omega arith;
+    rows = record {
+      rest = map rowOfPair (used h (pairCodes 40));
+      whole = refl;
+      zero = every (used h (pairCodes 40));
+    };
+    numbers = n;
+    later-exponents = record { place = λ x l. refl };
+    later-numbers = record { place = λ x l. refl };
+  }
+    where
+      every : (cs : List ℕ) → All Zero (map rowOfPair cs)
+      every [] = none
+      every (c ∷ cs) = more (table-zero 6 (pairNumber (columnTable both coefficients (c / 40)) coefficients (c / 40) (c % 40))
+          (λ i l. pair-zero b (c / 40) (c % 40) i)) (every cs)

@@ -20,6 +20,7 @@ use Rattle.forms.specs.Numbers.{six, bothTable, lineTable, columnTable, tableLi
 use Rattle.raw.specs.Accepted.{InSpan}
 use Rattle.raw.specs.Unused.{termAt, counts-in, centre-row, exponent-row, coefficient-row}
 use Rattle.raw.specs.Append.{wideTerm, Bounded, KeptFrom, term-same, rows-first, kept-after}
+use Rattle.raw.specs.Kept.{Kept, kept-to}
 use Rattle.raw.specs.Pairs.{used}
 use Rattle.raw.specs.PairOrder.{pairs-used}
 use Rattle.raw.specs.PairRows.{pairNumber, pairExponent, pairRow, number-square, number-pair, Added}
@@ -28,7 +29,7 @@ use Rattle.raw.specs.PairRows.{pairNumber, pairExponent, pairRow, number
 pub record RawTerms (lines both : List ℤ) (s : PolyZonotope) (e₀ : List ℕ) (w₀ : List ℤ) (r : ℕ) (e : List ℕ) (w : List ℤ) : Type 0 where
   pub inside : r ≤ 860
   pub rows : (c a q : List ℤ) → both ≡ bothTable q → lines ≡ lineTable a (bothTable q) (s .centre)
-      → rowsOf e w r ≡ map wideTerm (raw (six c a q) (view s) .terms)
+      → Kept (rowsOf e w r) (map wideTerm (raw (six c a q) (view s) .terms))
   pub numbers : Bounded rawLimit (r * 6) w
   pub later-exponents : KeptFrom 0 (r * 12) e₀ e
   pub later-numbers : KeptFrom (pos 0) (r * 6) w₀ w
@@ -155,12 +156,12 @@ module _ (lines both : List ℤ) (s : PolyZonotope) (ok : InSpan s) (e₀ e₁ e
   pub raw-terms : Added both (s .coefficients) (s .exponents) (s .terms) e₁ w₁ r e w → RawTerms lines both s e₀ w₀ r e w
   raw-terms t = let o = t .least in let i = t .inside in record {
     inside = omega (arith, counts-in s ok);
-    rows = λ c a q eb el. t .rows
-        ∙ ap (λ (b : List ℤ). rowsOf e₁ w₁ (s .terms) ++ map (pairRow b (s .coefficients) (s .exponents)) (used (s .terms) (pairCodes 40))) eb
+    rows = λ c a q eb el. kept-to (t .rows)
+        (ap (λ (b : List ℤ). rowsOf e₁ w₁ (s .terms) ++ map (pairRow b (s .coefficients) (s .exponents)) (used (s .terms) (pairCodes 40))) eb
         ∙ all-rows a q s ok c (rowsOf e₁ w₁ (s .terms))
         (ap₂ (λ (x : List ℕ) (y : List ℤ). rowsOf x y (s .terms)) exponents
         (numbers ∙ ap (λ (ls : List ℤ). write w₀ 0 (ownNumber ls s) (s .terms * 6)) el)
-        ∙ own-rows a q s ok c e₀ w₀ (omega (arith, counts-in s ok)) (omega (arith, counts-in s ok)));
+        ∙ own-rows a q s ok c e₀ w₀ (omega (arith, counts-in s ok)) (omega (arith, counts-in s ok))));
     numbers = t .numbers;
     later-exponents = record {
       place = λ x l. t .later-exponents .place x l ∙ ap (λ (y : List ℕ). getD y x 0) exponents

@@ -152,8 +152,8 @@ fn column_of(
     forms::column(column, both, coefficients, s, m);
 }
 
-// The rows of the pairs of the first h terms, after h rows; how many rows there are then. From a place of the table whose second term isn't
-// used the loop goes on with the next row of the table.
+// The rows of the pairs of the first h terms, after h rows; how many rows there are then. Where there are no forms all pairs are 0, and none
+// is made. From a place of the table whose second term isn't used the loop goes on with the next row of the table.
 fn pair_rows(
     w: &mut [i64],
     e: &mut [u8],
@@ -170,6 +170,9 @@ fn pair_rows(
     ensures { λ r. ⌜ Added (now (both .entry)) (now (coefficients .entry)) (now (exponents .entry)) h (now (e .entry)) (now (w .entry)) r
         (now (e .exit)) (now (w .exit)) ⌝ }
 {
+    if forms::no_forms(both) {
+        return h;
+    }
     let mut column = [0i64; 36];
     forms::column(&mut column, both, coefficients, 0, m);
     let mut last = 0;

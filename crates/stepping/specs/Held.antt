@@ -33,6 +33,8 @@ use Rattle.finish.specs.Wide.{wide, wideVector}
 use Rattle.finish.specs.WideFinish.{Narrow}
 use Rattle.answers.specs.Accepted.{AcceptedRecord, ready}
 use Rattle.answers.specs.Finishing.{Finishable, part, part-length, finished-held}
+use Rattle.rational.specs.Sum.{All-imp}
+use Rattle.stepping.specs.Shortened.{withTerms, Shortened, shortened, finish-shortened}
 use Rattle.stepping.specs.Work.{workNumbers, workExponents}
 
 -- the image without its terms and generators
@@ -105,13 +107,34 @@ module _ (p : Step) (s : PolyZonotope) (a : AcceptedRecord s) (ok : StepAccepted
     abbrev rows : ℕ
     rows = r .rows
 
-    image-wide : held (unfinishedImage p s r) (part (rows * 12) e) (part (rows * 6) w) rows (r .generators) (s .generators) ≡ wide image
+    -- the image's terms but for those of zeros that the rows don't hold
+    short : Shortened (length (image .identifiers)) (image .dimension) (image-narrow .coordinates) (rowsOf e w rows) (image .terms)
+        (image-narrow .shaped .rows) (d .terms)
+    short = shortened (length (image .identifiers)) (image .dimension) (image-narrow .coordinates) (rowsOf e w rows) (image .terms)
+        (image-narrow .shaped .rows) (d .terms)
+
+    abbrev shortImage : Zonotope
+    shortImage = withTerms image (short .terms)
+
+    short-narrow : Narrow shortImage
+    short-narrow = record {
+      shaped = record {
+        centre-long = image-narrow .shaped .centre-long;
+        radii-long = image-narrow .shaped .radii-long;
+        rows = short .long;
+        generators-long = image-narrow .shaped .generators-long;
+      };
+      coordinates = image-narrow .coordinates;
+      factors = image-narrow .factors;
+    }
+
+    image-wide : held (unfinishedImage p s r) (part (rows * 12) e) (part (rows * 6) w) rows (r .generators) (s .generators) ≡ wide shortImage
     unfolding wide rounded raw view
     image-wide = λ k. record {
       dimension = p .rows;
       identifiers = tab (s .factors) (λ i. getD (s .identifiers) i 0);
       centre = d .centre k;
-      terms = (rows-part e w rows ∙ d .terms) k;
+      terms = (rows-part e w rows ∙ sym (short .held)) k;
       generators = generators-wide k;
       radii = d .radii k;
     }
@@ -139,7 +162,7 @@ module _ (p : Step) (s : PolyZonotope) (a : AcceptedRecord s) (ok : StepAccepted
           generators-small = d .small-generators;
           centre-small = d .small-centre;
           radii-small = record { under = λ i. d .small-radii .below i };
-          widened = record { source = image; is = image-wide; narrow = image-narrow };
+          widened = record { source = shortImage; is = image-wide; narrow = short-narrow };
         }
 
     -- finished, they are the step
@@ -147,7 +170,11 @@ module _ (p : Step) (s : PolyZonotope) (a : AcceptedRecord s) (ok : StepAccepted
         (held (unfinishedImage p s r) (part (rows * 12) e) (part (rows * 6) w) rows (r .generators) (s .generators)))
         → f ≡ finishedAs (step standardWeights p (view s))
     unfolding step
-    image-step q = finished-held standardWeights maxTerms maxGenerators image image-narrow image-wide q
+    image-step q =
+        finished-held standardWeights maxTerms maxGenerators shortImage short-narrow image-wide q
+        ∙ ap finishedAs
+        (finish-shortened standardWeights maxTerms maxGenerators (image .dimension) image (short .terms) (short .rest) (short .joined)
+        (All-imp (λ t h. h .coefficients-long) (image-narrow .shaped .rows)) (short .zero))
 
 -- ---- places of the slices that no image uses
 module _ {p : Step} {s : PolyZonotope} {e₀ e : List ℕ} {w₀ w : List ℤ} {r : Image} (d : Imaged p s e₀ w₀ r e w) where

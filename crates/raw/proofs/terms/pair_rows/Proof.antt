@@ -2,7 +2,7 @@
 use borrow.Author.Needs.{needs}
 use native.Mathlib.Omega.{arith}
 use native.Mathlib.Nat.{mod-lt}
-use mathlib.Core.Path.{_≡_, ap, _∙_}
+use mathlib.Core.Path.{_≡_, sym, ap, _∙_}
 use mathlib.Core.List.{List}
 use Prim.Native.Nat.{ℕ, _+_, _-_, _*_, _/_, _<_, _≤_}
 use lib.IntN.{pos}
@@ -11,9 +11,9 @@ use Rattle.whole.specs.Tab.{all}
 use Rattle.model.specs.Pairs.{pairCodes}
 use Rattle.forms.specs.Numbers.{columnTable, column-long, column-small}
 use Rattle.forms.specs.RowsTo.{column-to}
-use Rattle.raw.specs.Zeros.{zeros-at}
+use Rattle.raw.specs.Zeros.{zeros-at, no-forms}
 use Rattle.raw.specs.Pairs.{first-below}
-use Rattle.raw.specs.PairRows.{Taken, taken-none, taken-left, taken-one, taken-all}
+use Rattle.raw.specs.PairRows.{Taken, taken-no-forms, taken-none, taken-left, taken-one, taken-all}
 use Rattle.raw.proofs.terms.pair_rows.Statement.{statement}
 use Rattle.raw.proofs.terms.pair_rows.Tie as tie
 
@@ -26,7 +26,7 @@ abbrev μ-loop : tie.MeasureT-loop
 
 -- where the loop began
 abbrev begun : tie.At-loop Inv-loop μ-loop → tie.Start Inv-loop μ-loop
-begun l = l .before .before .before .before .before .before
+begun l = l .before .before .before .before .before .before .before .before
 
 -- a column's array keeps its length
 long : (l : tie.At-loop Inv-loop μ-loop) → length (l .loop .column) ≡ 36
@@ -39,7 +39,7 @@ code-is c =
     c .place .ensures ∙ ap (λ (t : List ℕ). getD t (l .loop .k) 0) (begun l .pre .4)
 
 -- its places are terms', and there is room for a row
-room : (c : tie.Then1 Inv-loop μ-loop) →
+room : (c : tie.Then2 Inv-loop μ-loop) →
     let p = c .before in
     let l = p .before .before .before in
     (l .loop .r < 860) × (l .loop .r * 6 + 6 ≤ length (l .loop .w)) × (l .loop .r * 12 + 12 ≤ length (l .loop .e)) ×
@@ -52,13 +52,24 @@ room c =
     let b : l .loop .r < 860 = omega (arith, i .inside, begun l .pre .0, p .before .before .loop-test .taken) in
     (b, omega (arith, i .long-numbers, begun l .pre .2), omega (arith, i .long-exponents, begun l .pre .3), f)
 
+no-forms-requires : tie.Need-no-forms-requires Inv-loop μ-loop
+no-forms-requires c κs = search needs
+
+returns : tie.Need-returns Inv-loop μ-loop
+returns c =
+    let n = c .before in
+    let s = n .before .before in
+    let both = s .args .both .now in
+    taken-no-forms both (s .args .coefficients .now) (s .args .exponents .now) (s .args .h) _ _
+    (no-forms (s .args .m) both (s .pre .1) (s .pre .9) (sym (n .no-forms .ensures) ∙ c .if1 .taken)) (s .pre .8)
+
 slice-aggregate-column : tie.Need-slice-aggregate-column Inv-loop μ-loop
 slice-aggregate-column c = search needs
 
 column-requires : tie.Need-column-requires Inv-loop μ-loop
 unfolding all
 column-requires c κs =
-    let s = c .before .before .before in (
+    let s = c .before .before .before .before .before in (
       s .pre .1,
       omega arith,
       search needs,
@@ -72,7 +83,7 @@ column-requires c κs =
 loop-holds : tie.Need-loop-holds Inv-loop μ-loop
 loop-holds c =
     let n = c .before in
-    let s = n .before .before .before .before in
+    let s = n .before .before .before .before .before .before in
     (taken-none (s .args .both .now) (s .args .coefficients .now) (s .args .exponents .now) (s .args .h) _ _ (s .pre .8), n .column2 .ensures)
 
 mul-place : tie.Need-mul-place Inv-loop μ-loop
@@ -152,7 +163,7 @@ loop-again c =
     let b = room t in (
       taken-one (s .args .both .now) (s .args .coefficients .now) (s .args .exponents .now) (s .args .h) _ _ (l .loop .k) (l .loop .r)
           (l .loop .e) (l .loop .w) (l .loop .inv .0) (p .before .before .loop-test .taken) (p .place .result) _ _ _ (code-is p)
-          (d .column-of .ensures) (t .if1 .taken) (b .2) (b .1) (s .pre .6) (s .pre .5) (x .pair-exponents .ensures) (n .pair-numbers .ensures),
+          (d .column-of .ensures) (t .if2 .taken) (b .2) (b .1) (s .pre .6) (s .pre .5) (x .pair-exponents .ensures) (n .pair-numbers .ensures),
       d .column-of .ensures,
     )
 
@@ -173,7 +184,7 @@ loop-again-2 c =
     let l = p .before .before .before in
     let s = begun l in (
       taken-left (s .args .both .now) (s .args .coefficients .now) (s .args .exponents .now) (s .args .h) _ _ (l .loop .k) (l .loop .r)
-          (l .loop .e) (l .loop .w) (l .loop .inv .0) (p .before .before .loop-test .taken) (p .place .result) (code-is p) (c .if1 .left),
+          (l .loop .e) (l .loop .w) (l .loop .inv .0) (p .before .before .loop-test .taken) (p .place .result) (code-is p) (c .if2 .left),
       l .loop .inv .1,
     )
 
@@ -183,8 +194,8 @@ same-length c = let i = c .before .loop .inv .0 in search needs
 same-length-2 : tie.Need-same-length-2 Inv-loop μ-loop
 same-length-2 c = let i = c .before .loop .inv .0 in search needs
 
-returns : tie.Need-returns Inv-loop μ-loop
-returns c =
+returns-2 : tie.Need-returns-2 Inv-loop μ-loop
+returns-2 c =
     let l = c .before in
     let s = begun l in
     taken-all (s .args .both .now) (s .args .coefficients .now) (s .args .exponents .now) (s .args .h) _ _ (l .loop .k) (l .loop .r)
@@ -196,6 +207,8 @@ pair-rows-spec =
     (tie.spec
     Inv-loop
     μ-loop
+    no-forms-requires
+    returns
     slice-aggregate-column
     column-requires
     loop-holds
@@ -217,4 +230,4 @@ pair-rows-spec =
     loop-again-2
     same-length
     same-length-2
-    returns)
+    returns-2)
