@@ -16,7 +16,7 @@ pub struct Workload {
     make: fn() -> Vec<Field>,
 }
 
-pub static WORKLOADS: [Workload; 9] = [
+pub static WORKLOADS: [Workload; 12] = [
     workload(
         "oscillator",
         "a damped spring that stiffens, 2 coordinates, up to 12 terms; pushed and checked now and then",
@@ -27,6 +27,7 @@ pub static WORKLOADS: [Workload; 9] = [
         "6 coordinates, 12 factors, 40 terms, 24 generators; small dense forms, most products round to 0",
         dense,
     ),
+    workload("linear", "the same without forms: the steps are linear", linear),
     workload(
         "hardest",
         "a step in four has 40 terms, 24 generators and forms with every entry; its set is made anew after it",
@@ -37,11 +38,13 @@ pub static WORKLOADS: [Workload; 9] = [
         "4 coordinates: tied and independent sums, reductions and checks of 8 halfspaces; a step in eight",
         sums,
     ),
-    workload("terms-2", "steps on 2 terms in 4 coordinates whose products all fold", || steps_on(2)),
-    workload("terms-5", "the same on 5 terms", || steps_on(5)),
-    workload("terms-10", "the same on 10 terms", || steps_on(10)),
-    workload("terms-20", "the same on 20 terms", || steps_on(20)),
-    workload("terms-40", "the same on 40 terms", || steps_on(40)),
+    workload("terms-2", "steps on 2 terms in 4 coordinates whose products all fold", || steps_on(2, 4)),
+    workload("terms-5", "the same on 5 terms", || steps_on(5, 4)),
+    workload("terms-10", "the same on 10 terms", || steps_on(10, 4)),
+    workload("terms-20", "the same on 20 terms", || steps_on(20, 4)),
+    workload("terms-40", "the same on 40 terms", || steps_on(40, 4)),
+    workload("across-2", "steps on 20 terms in 2 coordinates", || steps_on(20, 2)),
+    workload("across-6", "steps on 20 terms in 6 coordinates", || steps_on(20, 6)),
 ];
 
 const fn workload(name: &'static str, about: &'static str, make: fn() -> Vec<Field>) -> Workload {
@@ -87,35 +90,61 @@ fn oscillator() -> Vec<Field> {
     })
 }
 
+/// Sets of the largest size on the same rows of exponents, each with its own numbers.
+struct Largest {
+    random: Random,
+    rows: BTreeSet<Vec<u32>>,
+    limit: i128,
+    small: i128,
+}
+
+impl Largest {
+    fn new(seed: u64, limit: i128, small: i128) -> Largest {
+        let mut random = Random::new(seed);
+        let rows = exponent_rows(&mut random, MAX_FACTORS, MAX_TERMS, 3);
+        Largest { random, rows, limit, small }
+    }
+
+    fn next(&mut self) -> Set {
+        set(&mut self.random, MAX_DIMENSION, &self.rows, self.limit, MAX_GENERATORS, self.small)
+    }
+}
+
 fn dense() -> Vec<Field> {
-    let mut random = Random::new(1);
+    turned(|random| forms(random, MAX_DIMENSION, 2))
+}
+
+fn linear() -> Vec<Field> {
+    turned(|_| vec![vec![vec![0; MAX_DIMENSION]; MAX_DIMENSION]; MAX_DIMENSION])
+}
+
+/// Steps that turn and shrink the largest sets; after seven of them a set is added.
+fn turned(forms: fn(&mut Random) -> Vec<Vec<Vec<i128>>>) -> Vec<Field> {
     let n = MAX_DIMENSION;
-    let rows = exponent_rows(&mut random, MAX_FACTORS, MAX_TERMS, 3);
-    let full = |random: &mut Random| set(random, n, &rows, 800, MAX_GENERATORS, 300);
-    let start = full(&mut random);
+    let mut sets = Largest::new(1, 800, 300);
+    let start = sets.next();
     run(start, |place| match place % 8 {
-        7 => Field::Tied(full(&mut random)),
+        7 => Field::Tied(sets.next()),
         _ => {
-            let mut matrix: Vec<Vec<i128>> = (0..n).map(|_| numbers(&mut random, n, 60)).collect();
+            let random = &mut sets.random;
+            let mut matrix: Vec<Vec<i128>> = (0..n).map(|_| numbers(random, n, 60)).collect();
             (0..n).for_each(|i| matrix[i][(i + 1) % n] = 3_200);
-            Field::Step(Step { constant: numbers(&mut random, n, 100), matrix, forms: forms(&mut random, n, 2) })
+            Field::Step(Step { constant: numbers(random, n, 100), matrix, forms: forms(random) })
         }
     })
 }
 
 fn hardest() -> Vec<Field> {
-    let mut random = Random::new(2);
     let n = MAX_DIMENSION;
-    let rows = exponent_rows(&mut random, MAX_FACTORS, MAX_TERMS, 3);
-    let full = |random: &mut Random| set(random, n, &rows, 200, MAX_GENERATORS, 20);
-    let start = full(&mut random);
+    let mut sets = Largest::new(2, 200, 20);
+    let start = sets.next();
     run(start, |place| match place % 4 {
         0 => Field::Step(Step {
-            constant: numbers(&mut random, n, 1_000),
-            matrix: (0..n).map(|_| numbers(&mut random, n, 2_000)).collect(),
-            forms: forms(&mut random, n, 4_096),
+            constant: numbers(&mut sets.random, n, 1_000),
+            matrix: (0..n).map(|_| numbers(&mut sets.random, n, 2_000)).collect(),
+            forms: forms(&mut sets.random, n, 4_096),
         }),
-        3 => Field::Tied(full(&mut random)),
+        3 => Field::Tied(sets.next()),
         other => emptied(other, n),
     })
 }
@@ -149,9 +178,8 @@ fn sums() -> Vec<Field> {
 
 /// Each term has the first factor to a power of 32 or more, so that the product of two has one above 63 and folds;
 /// after each nine steps the set is made anew.
-fn steps_on(terms: usize) -> Vec<Field> {
+fn steps_on(terms: usize, n: usize) -> Vec<Field> {
     let mut random = Random::new(4);
-    let n = 4;
     let rows: BTreeSet<Vec<u32>> = exponent_rows(&mut random, terms.min(5), terms, 3)
         .into_iter()
         .map(|row| [vec![random.between(32, 63) as u32], row].concat())

@@ -1,7 +1,6 @@
 // The raw terms of the image in rows of the work slices: own terms first, then the pairs of terms.
 ghost use mathlib.Core.Path.{_≡_};
 ghost use Prim.Native.Nat.{ℕ, _+_, _*_, _/_, _%_, _≤_, _<_};
-ghost use lib.IntN.{pos};
 ghost use lib.ListN.{length, getD};
 ghost use Rattle.whole.specs.Half.{half};
 ghost use Rattle.whole.specs.Write.{write};
@@ -10,7 +9,7 @@ ghost use Rattle.model.specs.Pairs.{pairCodes};
 ghost use Rattle.model.specs.Set.{at};
 ghost use Rattle.model.specs.Step.{dot};
 ghost use Rattle.forms.specs.Tables.{rowOf};
-ghost use Rattle.forms.specs.Numbers.{bothLimit, tableLimit, rawLimit, bothTable, lineTable, columnTable};
+ghost use Rattle.forms.specs.Numbers.{bothLimit, tableLimit, rawLimit, columnTable};
 ghost use Rattle.forms.specs.RowsTo.{RowsTo};
 ghost use Rattle.raw.specs.Accepted.{InSpan};
 ghost use Rattle.raw.specs.Limits.{Low};

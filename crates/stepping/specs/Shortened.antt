@@ -1,13 +1,12 @@
 -- Finishing forgets terms of zeros: a set whose last terms are such is finished as the same set without them.
-use mathlib.Core.Bool.{true, cond, not}
+use mathlib.Core.Bool.{cond}
 use mathlib.Core.List.{List, [], _∷_, _++_, map}
 use mathlib.Core.Path.{_≡_, refl, sym, _∙_, ap, ap₂, subst}
 use Prim.Native.Nat.{ℕ, _≤_}
 use native.Mathlib.Omega.{arith}
 use lib.ListN.{length, getD, drop}
-use Rattle.rational.specs.Sum.{All, none, more, All-imp}
+use Rattle.rational.specs.Sum.{All, none, more}
 use Rattle.model.specs.Set.{Term, Zonotope}
-use Rattle.model.specs.Valid.{zeros}
 use Rattle.model.specs.Finish.{collect, those, onTerms, collectTerms, dropZeroTerms, dropZeroGenerators, foldHigh, foldTerms, foldGenerators}
 use Rattle.model.specs.Finish.{dropUnused, finish}
 use Rattle.model.proofs.Shape.{Row}

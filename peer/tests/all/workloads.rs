@@ -30,9 +30,11 @@ fn oscillator_steps_are_small_and_many() {
 }
 
 #[test]
-fn dense_and_hardest_steps_are_on_full_sets() {
+fn dense_linear_and_hardest_steps_are_on_full_sets() {
     let full = |steps: &Steps| steps.iter().filter(|s| s[..3] == [12, 40, 24]).count();
-    assert_eq!(full(&steps("dense")), 7 * MAX_FIELDS / 8);
+    for name in ["dense", "linear"] {
+        assert_eq!(full(&steps(name)), 7 * MAX_FIELDS / 8, "{name}");
+    }
     let hardest = steps("hardest");
     assert_eq!(full(&hardest), MAX_FIELDS / 4);
     assert!(hardest.iter().filter(|s| s[3] > 800).count() == MAX_FIELDS / 4, "all but a few products fold");
@@ -47,13 +49,20 @@ fn sums_have_every_kind_of_field_and_both_verdicts() {
     assert!((500..1_000).contains(&safe), "{safe}");
 }
 
+/// The steps of a workload on sets of so many terms; some are on none.
+fn steps_on(name: &str, terms: usize) -> Steps {
+    let (on_terms, on_none): (Steps, Steps) = steps(name).iter().partition(|s| s[1] > 0);
+    assert!(on_terms.iter().all(|s| s[1] == terms) && 8 * on_none.len() < on_terms.len(), "{name}");
+    on_terms
+}
+
 #[test]
 fn growth_is_measured_on_sets_of_so_many_terms() {
     for terms in [2, 5, 10, 20, 40] {
-        let steps = steps(&format!("terms-{terms}"));
-        let (on_terms, on_none): (Steps, Steps) = steps.iter().partition(|s| s[1] > 0);
-        assert!(on_terms.iter().all(|s| s[1] == terms) && 8 * on_none.len() < on_terms.len(), "{terms}");
-        let folded: usize = on_terms.iter().map(|s| s[3]).sum();
-        assert!(10 * folded > 9 * on_terms.len() * terms * (terms + 1) / 2, "{terms}: nearly every product folds");
+        let steps = steps_on(&format!("terms-{terms}"), terms);
+        let folded: usize = steps.iter().map(|s| s[3]).sum();
+        assert!(10 * folded > 9 * steps.len() * terms * (terms + 1) / 2, "{terms}: nearly every product folds");
     }
+    steps_on("across-2", 20);
+    steps_on("across-6", 20);
 }

@@ -1,6 +1,5 @@
 -- `raw::parts::centre` meets its contract.
 use borrow.Author.Needs.{needs}
-use native.Mathlib.Omega.{arith}
 use Rattle.rows.specs.Rows.{Small}
 use Rattle.raw.specs.Accepted.{RowsSized}
 use Rattle.raw.specs.Limits.{centre-small}

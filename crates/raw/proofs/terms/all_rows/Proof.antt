@@ -2,7 +2,6 @@
 use native.Mathlib.Omega.{arith}
 use borrow.Author.Needs.{needs}
 use mathlib.Core.Path.{ap, _∙_}
-use Prim.Native.Nat.{_*_}
 use lib.ListN.{length}
 use Rattle.whole.specs.Write.{write-length}
 use Rattle.rows.specs.Rows.{Small}

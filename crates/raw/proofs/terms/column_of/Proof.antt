@@ -1,7 +1,7 @@
 -- `raw::terms::column_of` meets its contract, by its test.
 use borrow.Author.Needs.{needs}
 use native.Mathlib.Omega.{arith}
-use mathlib.Core.Path.{_≡_, sym, ap, _∙_}
+use mathlib.Core.Path.{sym, ap, _∙_}
 use lib.ListN.{length}
 use Rattle.forms.specs.Numbers.{columnTable, column-long}
 use Rattle.forms.specs.RowsTo.{column-to}

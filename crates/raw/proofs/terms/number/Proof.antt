@@ -1,9 +1,7 @@
 -- `raw::terms::number` meets its contract, by its test.
 use borrow.Author.Needs.{needs}
 use native.Mathlib.Omega.{arith}
-use mathlib.Core.Path.{_≡_, sym}
-use Prim.Native.Nat.{_*_}
-use Rattle.whole.specs.Fits.{got64}
+use mathlib.Core.Path.{sym}
 use Rattle.forms.specs.Tables.{rowOf}
 use Rattle.forms.specs.RowsTo.{dot-past}
 use Rattle.raw.proofs.terms.number.Statement.{statement}

@@ -1,6 +1,5 @@
 -- `raw::terms::pair_numbers` meets its contract, by its test.
 use borrow.Author.Needs.{needs}
-use native.Mathlib.Omega.{arith}
 use Rattle.raw.specs.PairRows.{pair-written, square-written}
 use Rattle.raw.proofs.terms.pair_numbers.Statement.{statement}
 use Rattle.raw.proofs.terms.pair_numbers.Tie as tie
