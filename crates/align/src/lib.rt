@@ -1,17 +1,13 @@
 // The sum of two sets before finishing: rows of 12 exponents for common factors and of 6 numbers in lent slices, a centre and radii.
-ghost use mathlib.Core.Path.{_≡_};
 ghost use mathlib.Core.List.{List};
-ghost use Prim.Native.Nat.{ℕ, _+_, _*_, _≤_};
-ghost use lib.ListN.{length, getD};
-ghost use lib.IntN.{pos};
-ghost use Rattle.whole.specs.Write.{write};
+ghost use Prim.Native.Nat.{ℕ, _≤_};
+ghost use lib.ListN.{length};
 ghost use Rattle.model.specs.Limits.{maxSpan, lastFresh};
 ghost use Rattle.model.specs.Operations.{joined, renumbered};
 ghost use Rattle.zonotope.specs.Record.{view};
 ghost use Rattle.rows.specs.Rows.{Small};
-ghost use Rattle.align.specs.Runs.{flat};
 ghost use Rattle.align.specs.Examined.{Examined};
-ghost use Rattle.align.specs.Sum.{summed, exponentsOf, Factors, Common, Terms, Generators, Space, Joined};
+ghost use Rattle.align.specs.Sum.{summed, Factors, Common, Terms, Generators, Space, Joined};
 use zonotope::PolyZonotope;
 
 mod numbering;
@@ -126,10 +122,28 @@ fn join_terms(
 {
     let own = a.identifiers;
     let h = a.terms;
-    put_exponents(a, &own, all, e, 0);
-    put_exponents(b, ids, all, e, h);
-    put_coefficients(a, c, 0);
-    put_coefficients(b, c, h);
+    wide::align_rows(
+        &a.exponents,
+        h,
+        &own,
+        a.factors,
+        &all.numbers,
+        all.count,
+        e,
+        0,
+    );
+    wide::align_rows(
+        &b.exponents,
+        b.terms,
+        ids,
+        b.factors,
+        &all.numbers,
+        all.count,
+        e,
+        h,
+    );
+    wide::widen_rows(&a.coefficients, h, c, 0);
+    wide::widen_rows(&b.coefficients, b.terms, c, h);
     h + b.terms
 }
 
@@ -139,40 +153,7 @@ fn join_generators(a: PolyZonotope, b: PolyZonotope, g: &mut [i64]) -> usize
     ensures { λ r. ⌜ ((ids : List ℕ) → Generators (summed a b ids) (now (g .entry)) (now (g .exit)) r) ⌝ }
 {
     let h = a.generators;
-    put_generators(a, g, 0);
-    put_generators(b, g, h);
+    wide::widen_rows(&a.vectors, h, g, 0);
+    wide::widen_rows(&b.vectors, b.generators, g, h);
     h + b.generators
-}
-
-// The exponents of a set whose identifiers count as `ids`, in rows for the factors `all`, from row `to` on.
-fn put_exponents(s: PolyZonotope, ids: &[u32; 12], all: Identifiers, e: &mut [u8], to: usize)
-    requires { ⌜ Examined s × (all .count ≤ 12) × (to * 12 + s .terms * 12 ≤ length (now e)) ⌝ }
-    ensures { λ _. ⌜ now (e .exit) ≡ write (now (e .entry)) (to * 12) (flat 12 (exponentsOf s (now (ids .entry)) all)) (s .terms * 12) ⌝ }
-{
-    wide::align_rows(
-        &s.exponents,
-        s.terms,
-        ids,
-        s.factors,
-        &all.numbers,
-        all.count,
-        e,
-        to,
-    );
-}
-
-// The coefficients of a set, from row `to` on.
-fn put_coefficients(s: PolyZonotope, c: &mut [i64], to: usize)
-    requires { ⌜ Examined s × (to * 6 + s .terms * 6 ≤ length (now c)) ⌝ }
-    ensures { λ _. ⌜ now (c .exit) ≡ write (now (c .entry)) (to * 6) (λ k. getD (s .coefficients) k (pos 0)) (s .terms * 6) ⌝ }
-{
-    wide::widen_rows(&s.coefficients, s.terms, c, to);
-}
-
-// The generators of a set, from row `to` on.
-fn put_generators(s: PolyZonotope, g: &mut [i64], to: usize)
-    requires { ⌜ Examined s × (to * 6 + s .generators * 6 ≤ length (now g)) ⌝ }
-    ensures { λ _. ⌜ now (g .exit) ≡ write (now (g .entry)) (to * 6) (λ k. getD (s .vectors) k (pos 0)) (s .generators * 6) ⌝ }
-{
-    wide::widen_rows(&s.vectors, s.generators, g, to);
 }

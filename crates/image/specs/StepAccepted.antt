@@ -13,16 +13,15 @@ use Rattle.rows.specs.Rows.{Small}
 use Rattle.model.specs.Limits.{maxEntry, maxConstant}
 use Rattle.model.specs.Step.{Step}
 use Rattle.model.specs.Field.{badDimension, beyond, differs}
+use Rattle.model.specs.Library.{badStepCounts, badStepLengths, badStepRange}
 use Rattle.forms.specs.Wide.{StepShaped}
 use Rattle.raw.specs.Tests.{none-beyond}
 
 -- a count out of limits, a list whose length the counts don't give, an entry out of range: none of these
 pub record StepAccepted (p : Step) : Type 0 where
-  pub counts : (badDimension (p .rows) || badDimension (p .columns)) ≡ false
-  pub lengths : (differs (length (p .constant)) (p .rows)
-      || differs (length (p .linear)) (p .rows * p .columns)
-      || differs (length (p .quadratic)) (p .rows * p .columns * p .columns)) ≡ false
-  pub range : (any (beyond maxConstant) (p .constant) || any (beyond maxEntry) (p .linear) || any (beyond maxEntry) (p .quadratic)) ≡ false
+  pub counts : badStepCounts p ≡ false
+  pub lengths : badStepLengths p ≡ false
+  pub range : badStepRange p ≡ false
 
 -- the step's numbers in lists
 abbrev pub stepOf : ℕ → ℕ → List ℤ → List ℤ → List ℤ → Step
