@@ -16,16 +16,17 @@ pub enum Field {
     Tied(Set),
     Reduce(Limits),
     Check(Vec<Halfspace>),
+    Hull(Set),
 }
 
 pub fn is_known_tag(tag: u8) -> bool {
-    (1..=7).contains(&tag)
+    (1..=8).contains(&tag)
 }
 
 /// How many bytes at the start of a body are counts.
 pub fn count_bytes(tag: u8) -> usize {
     match tag {
-        1 | 4 | 5 => 4,
+        1 | 4 | 5 | 8 => 4,
         3 => 1,
         _ => 2,
     }
@@ -36,7 +37,7 @@ pub fn counts_fit(tag: u8, body: &[u8]) -> bool {
     let dimension = |n: u8| (1..=MAX_DIMENSION).contains(&usize::from(n));
     let at_most = |v: u8, limit: usize| usize::from(v) <= limit;
     match tag {
-        1 | 4 | 5 => {
+        1 | 4 | 5 | 8 => {
             dimension(body[0])
                 && at_most(body[1], MAX_FACTORS)
                 && at_most(body[2], MAX_TERMS)
@@ -53,7 +54,7 @@ pub fn counts_fit(tag: u8, body: &[u8]) -> bool {
 pub fn expected_length(tag: u8, body: &[u8]) -> usize {
     let count = |i: usize| usize::from(body[i]);
     match tag {
-        1 | 4 | 5 => {
+        1 | 4 | 5 | 8 => {
             let (n, p, h, q) = (count(0), count(1), count(2), count(3));
             4 + 4 * p + 4 * n + h * (p + 4 * n) + 4 * n * q + 4 * n
         }
@@ -80,6 +81,7 @@ pub fn decode(tag: u8, body: &[u8]) -> Field {
         4 => Field::Independent(reader.set()),
         5 => Field::Tied(reader.set()),
         6 => Field::Reduce(Limits { terms: reader.count(), generators: reader.count() }),
+        8 => Field::Hull(reader.set()),
         _ => {
             let (n, count) = (reader.count(), reader.count());
             let halfspace = |_| Halfspace { normal: reader.words(n), bound: reader.long() };
@@ -98,6 +100,7 @@ impl Field {
             Field::Tied(_) => 5,
             Field::Reduce(_) => 6,
             Field::Check(_) => 7,
+            Field::Hull(_) => 8,
         }
     }
 
@@ -107,7 +110,7 @@ impl Field {
             Field::Start(_) | Field::Reduce(_) => None,
             Field::Step(step) => Some(step.from_dimension()),
             Field::Disturbance(radii) => Some(radii.len()),
-            Field::Independent(set) | Field::Tied(set) => Some(set.dimension()),
+            Field::Independent(set) | Field::Tied(set) | Field::Hull(set) => Some(set.dimension()),
             Field::Check(region) => region.first().map(|halfspace| halfspace.normal.len()),
         }
     }
@@ -124,7 +127,9 @@ impl Field {
     pub fn encode_body(&self) -> Vec<u8> {
         let mut body = Vec::new();
         match self {
-            Field::Start(set) | Field::Independent(set) | Field::Tied(set) => push_set(&mut body, set),
+            Field::Start(set) | Field::Independent(set) | Field::Tied(set) | Field::Hull(set) => {
+                push_set(&mut body, set)
+            }
             Field::Step(step) => {
                 body.extend([step.constant.len() as u8, step.from_dimension() as u8]);
                 push_words(&mut body, &step.constant);

@@ -120,13 +120,20 @@ impl Motion {
     pub fn accept(&mut self, accepted: &Accepted) {
         match &accepted.field {
             Field::Start(body) | Field::Tied(body) => {
-                for id in &body.identifiers {
-                    if !self.values.contains_key(id) {
-                        let value = self.pick();
-                        self.values.insert(*id, value);
-                    }
-                }
+                self.pick_values(body);
                 self.add_body(body, &body.identifiers);
+            }
+            Field::Hull(body) => {
+                self.pick_values(body);
+                let here = std::mem::take(&mut self.place);
+                self.add_body(body, &body.identifiers);
+                let blend = self.pick();
+                let one = Fraction::from(1);
+                let parts = [(&one + &blend, &here), (&one - &blend, &self.place)];
+                let coordinate = |i: usize| sum(parts.iter().map(|(share, x)| share * &x[i])).over_power(1);
+                self.place = (0..here.len()).map(coordinate).collect();
+                self.values.insert(self.mark, blend);
+                self.mark += 1;
             }
             Field::Independent(body) => {
                 let identifiers: Vec<i128> = (self.mark..).take(body.identifiers.len()).collect();
@@ -142,6 +149,16 @@ impl Motion {
             Field::Reduce(_) | Field::Check(_) => {}
         }
         self.numbers = accepted.kept.iter().map(|place| self.numbers[*place].clone()).collect();
+    }
+
+    /// Values for the body's identifiers that have none yet.
+    fn pick_values(&mut self, body: &Set) {
+        for id in &body.identifiers {
+            if !self.values.contains_key(id) {
+                let value = self.pick();
+                self.values.insert(*id, value);
+            }
+        }
     }
 
     fn add_body(&mut self, body: &Set, identifiers: &[i128]) {

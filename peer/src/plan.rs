@@ -1,7 +1,7 @@
 //! Plans: run files as text, a block for each field. `#` starts a comment.
 //!
 //! ```text
-//! start N                          also `independent N` and `tied N`; N coordinates
+//! start N                          also `independent N`, `tied N` and `hull N`; N coordinates
 //!   identifiers 1 2                none if left out
 //!   centre 0 0                     zeros if left out, as are radii
 //!   term 1 0 : 4096 0              an exponent for each identifier, then N coefficients
@@ -37,7 +37,7 @@ use crate::step::Step;
 const MAX_BYTES: usize = 1 << 24;
 const MAX_DEPTH: usize = 16;
 const DIMENSION: Kind = count(1, MAX_DIMENSION as i128);
-const FIELDS: [&str; 7] = ["start", "step", "disturbance", "independent", "tied", "reduce", "check"];
+const FIELDS: [&str; 8] = ["start", "step", "disturbance", "independent", "tied", "reduce", "check", "hull"];
 const PARTS: [&str; 9] = ["identifiers", "centre", "term", "generator", "radii", "c", "A", "Q", "halfspace"];
 
 #[derive(Debug, PartialEq, Eq)]
@@ -190,6 +190,7 @@ fn field(head: &Line, parts: &[Line]) -> Result<Field, PlanError> {
         "start" => set(head, parts, dimension()?).map(Field::Start),
         "independent" => set(head, parts, dimension()?).map(Field::Independent),
         "tied" => set(head, parts, dimension()?).map(Field::Tied),
+        "hull" => set(head, parts, dimension()?).map(Field::Hull),
         "step" => step(head, parts).map(Field::Step),
         "disturbance" => {
             allow(head, parts, &["radii"])?;

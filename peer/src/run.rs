@@ -5,7 +5,7 @@ use crate::field::{count_bytes, counts_fit, decode, expected_length, is_known_ta
 use crate::finish::{finish, Finished, Folds};
 use crate::set::Set;
 use crate::step::CONSTANT_LIMIT;
-use crate::sums::{add, independent_sum, tied_sum};
+use crate::sums::{add, hull, independent_sum, tied_sum};
 
 /// The first identifier that no file can name.
 pub const FIRST_MARK: i128 = 65_536;
@@ -165,6 +165,10 @@ pub fn apply(field: &Field, state: &State) -> Result<(Finished, i128), Cause> {
             independent_sum(set, body, state.mark).ok_or(Cause::Factors)?
         }
         Field::Tied(body) => tied_sum(set, body).ok_or(Cause::Factors)?,
+        Field::Hull(body) => {
+            mark += 1;
+            hull(set, body, state.mark).ok_or(Cause::Factors)?
+        }
         Field::Reduce(limits) => finish(set.clone(), *limits),
         Field::Check(_) | Field::Start(_) => Finished::as_it_is(set.clone()),
     };
@@ -177,7 +181,7 @@ pub fn apply(field: &Field, state: &State) -> Result<(Finished, i128), Cause> {
 /// 6, 7 and 8: what a body can have wrong by itself.
 fn look_at_body(field: &Field) -> Result<(), Cause> {
     let in_range = match field {
-        Field::Start(body) | Field::Independent(body) | Field::Tied(body) => body.is_in_range(),
+        Field::Start(body) | Field::Independent(body) | Field::Tied(body) | Field::Hull(body) => body.is_in_range(),
         Field::Step(step) => step.is_in_range(),
         Field::Disturbance(radii) => radii.iter().all(|r| (0..=MAX_DISTURBANCE).contains(r)),
         Field::Check(region) => region.iter().all(|halfspace| halfspace.is_in_range()),
@@ -186,7 +190,7 @@ fn look_at_body(field: &Field) -> Result<(), Cause> {
     if !in_range {
         return Err(Cause::Range);
     }
-    if let Field::Start(body) | Field::Independent(body) | Field::Tied(body) = field {
+    if let Field::Start(body) | Field::Independent(body) | Field::Tied(body) | Field::Hull(body) = field {
         if !body.keeps_rules() {
             return Err(Cause::Rule);
         }

@@ -48,6 +48,7 @@ fn block(field: &Field) -> (String, Vec<String>) {
         Field::Start(set) => (format!("start {}", set.dimension()), set_lines(set)),
         Field::Independent(set) => (format!("independent {}", set.dimension()), set_lines(set)),
         Field::Tied(set) => (format!("tied {}", set.dimension()), set_lines(set)),
+        Field::Hull(set) => (format!("hull {}", set.dimension()), set_lines(set)),
         Field::Step(step) => {
             let mut parts = vec![labelled("c", &step.constant), format!("A {}", rows(&step.matrix))];
             for (i, form) in step.forms.iter().enumerate() {

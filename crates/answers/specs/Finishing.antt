@@ -2,11 +2,14 @@
 use mathlib.Core.Path.{_≡_, refl, sym, ap, ap₂, subst, _∙_}
 use mathlib.Core.List.{List, [], _∷_}
 use mathlib.Core.Bool.{Bool, true, false, cond}
-use Prim.Native.Nat.{ℕ, zero, suc, _-_, _*_, _^_, _≤_}
+use Prim.Native.Nat.{ℕ, zero, suc, _+_, _-_, _*_, _^_, _<_, _≤_}
+use native.Mathlib.Decide.{decLt}
 use native.Mathlib.Omega.{arith}
-use lib.ListN.{length, getD, take, replicate, length-replicate}
+use lib.ListN.{length, getD, take, replicate, length-replicate, List·getD-eq-default}
 use lib.Seq.{length-take-le}
 use lib.IntN.{ℤ, pos, natAbs}
+use Rattle.whole.specs.Tab.{tab-cong}
+use Rattle.whole.specs.Write.{getD-take}
 use Rattle.rational.specs.Sum.{All, none, more}
 use Rattle.model.specs.Set.{Zonotope}
 use Rattle.model.specs.Valid.{tooWide}
@@ -15,7 +18,7 @@ use Rattle.model.specs.Limits.{standardWeights}
 use Rattle.model.specs.Run.{_if_, firstOf, noSet}
 use Rattle.zonotope.specs.declared.PolyZonotope.{PolyZonotope}
 use Rattle.zonotope.specs.Record.{pack}
-use Rattle.rows.specs.Rows.{Small}
+use Rattle.rows.specs.Rows.{rowsOf, Small}
 use Rattle.fold.specs.Marks.{same-at}
 use Rattle.fold.specs.Folding.{Under}
 use Rattle.finish.specs.declared.Unfinished.{Unfinished}
@@ -90,6 +93,23 @@ part n xs = take (n - 0) xs
 
 pub part-length : {A : Type 0} (n : ℕ) (xs : List A) → n ≤ length xs → length (part n xs) ≡ n
 part-length n xs h = length-take-le (n - 0) xs (omega arith) ∙ omega arith
+
+-- rows in the parts that hold them
+pub rows-part : (e : List ℕ) (w : List ℤ) (n : ℕ) → rowsOf (part (n * 12) e) (part (n * 6) w) n ≡ rowsOf e w n
+unfolding rowsOf
+rows-part e w n =
+    tab-cong n _ _ (λ t h. ap₂ (λ (x : List ℕ) (y : List ℤ). record { exponents = x; coefficients = y })
+    (tab-cong 12 _ _ (λ k l. getD-take (n * 12 - 0) e (t * 12 + k) 0 (omega arith)))
+    (tab-cong 6 _ _ (λ j l. getD-take (n * 6 - 0) w (t * 6 + j) (pos 0) (omega arith))))
+
+-- numbers that are small in the first n places are small in the part that is lent
+pub part-small : (K n : ℕ) (w : List ℤ) → n ≤ length w → ((i : ℕ) → i < n → natAbs (getD w i (pos 0)) ≤ K) → Small K (part n w)
+part-small K n w fits b = record { small = λ i. go i (decLt i n) }
+  where
+    go : (i : ℕ) → Dec (i < n) → natAbs (getD (part n w) i (pos 0)) ≤ K
+    go i (yes l) = rw (getD-take (n - 0) w i (pos 0) (omega arith)) (b i l)
+    go i (no l) =
+        rw (List·getD-eq-default (part n w) (pos 0) {n = i} (omega (arith, part-length n w fits))) (omega arith)
 
 -- room for `rows` rows
 pub record Room (rows : ℕ) (places heads : List ℕ) (sums : List ℤ) : Type 0 where

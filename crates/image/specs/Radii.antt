@@ -41,7 +41,7 @@ module _ (s : PolyZonotope) (ok : InSpan s) where
   abbrev pub radiusSpread : ℕ → ℕ
   radiusSpread = spread (s .coefficients) 0 (s .radii)
 
-  independent-are : (j : ℕ) → j < 6 → independentSpread j ≡ generatorSizes (view s) j + radius (view s) j
+  pub independent-are : (j : ℕ) → j < 6 → independentSpread j ≡ generatorSizes (view s) j + radius (view s) j
   independent-are j h = ap₂ _+_ (generator-sizes s ok j h) (radius-row s ok j h)
 
   radii-are : (j : ℕ) → j < 6 → radiusSpread j ≡ radius (view s) j

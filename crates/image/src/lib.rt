@@ -9,8 +9,8 @@ ghost use Rattle.raw.specs.Accepted.{InSpan};
 ghost use Rattle.image.specs.StepAccepted.{StepAccepted, stepOf};
 ghost use Rattle.image.specs.Imaged.{Imaged};
 
-mod remainder;
-mod rounding;
+pub mod remainder;
+pub mod rounding;
 
 use zonotope::PolyZonotope;
 

@@ -53,7 +53,7 @@ fn spread_at(xs: &[i32], rows: usize, radii: &[u32; 6], i: usize) -> u64
 }
 
 // The sizes of each coordinate over the first rows, with radii.
-fn spreads(xs: &[i32], rows: usize, radii: &[u32; 6]) -> [u64; 6]
+pub fn spreads(xs: &[i32], rows: usize, radii: &[u32; 6]) -> [u64; 6]
     requires { ⌜ (rows ≤ 40) × (rows * 6 ≤ length (now xs)) × ((i : ℕ) → i < 6 → rowSizes (now xs) rows i ≤ 1048576) ⌝ }
     ensures { λ r. ⌜ r ≡ tab 6 (spread (now (xs .entry)) rows (now (radii .entry))) ⌝ }
 {

@@ -12,11 +12,11 @@ use Rattle.model.specs.Limits.{maxFactors, maxTerms, maxGenerators, file
 use Rattle.model.specs.Set.{Zonotope}
 use Rattle.model.specs.Body.{dimension, factors, givenSet, stepRows, stepColumns, givenStep, givenRadii}
 use Rattle.model.specs.Body.{termLimit, generatorLimit}
-use Rattle.model.specs.Field.{Kind, start, step, disturbance, independent, tied, reduction, check, unknown, Meaning}
+use Rattle.model.specs.Field.{Kind, start, step, disturbance, independent, tied, reduction, check, hull, unknown, Meaning}
 use Rattle.model.specs.Field.{meaning, badDimension}
 use Rattle.model.proofs.Tests.{or-false}
 use Rattle.model.proofs.Shape.{Valid, counted, ranged}
-use Rattle.model.proofs.Held.{Held, held, held-up, valid-ready, reduce-held, step-held, sum-held, independent-held, disturb-held}
+use Rattle.model.proofs.Held.{Held, held, held-up, valid-ready, reduce-held, step-held, sum-held, independent-held, hull-held, disturb-held}
 use Rattle.model.proofs.Accepted.{Passed, dimension-in, same, given-dimension, given-factors, given-valid, given-radii}
 
 -- ---- what an accepted field's body says, by kinds
@@ -28,9 +28,10 @@ starts independent = false
 starts tied = false
 starts reduction = false
 starts check = false
+starts hull = false
 starts unknown = false
 
--- the set in the body of a start, tied or independent field is valid
+-- the set in the body of a start, tied, independent or hull field is valid
 abbrev pub BodyValid : Kind → List ℕ → Type 0
 BodyValid start b = Valid fileIdentifiers (givenSet b)
 BodyValid step b = Unit {0}
@@ -39,6 +40,7 @@ BodyValid independent b = Valid fileIdentifiers (givenSet b)
 BodyValid tied b = Valid fileIdentifiers (givenSet b)
 BodyValid reduction b = Unit {0}
 BodyValid check b = Unit {0}
+BodyValid hull b = Valid fileIdentifiers (givenSet b)
 BodyValid unknown b = Unit {0}
 
 -- the dimension that a body claims of a set of dimension n; a start set, a reduction and an unknown field claim none
@@ -50,6 +52,7 @@ claimed independent b n = dimension b
 claimed tied b n = dimension b
 claimed reduction b n = n
 claimed check b n = dimension b
+claimed hull b n = dimension b
 claimed unknown b n = n
 
 module _ (b : List ℕ) (next : ℕ) (s : Zonotope) where
@@ -63,6 +66,7 @@ module _ (b : List ℕ) (next : ℕ) (s : Zonotope) where
   body-valid tied p = given-valid b _ _ _ _ p
   body-valid reduction p = tt
   body-valid check p = tt
+  body-valid hull p = given-valid b _ _ _ _ p
   body-valid unknown p = tt
 
   -- The dimension that an accepted field's body claims is the given set's.
@@ -75,6 +79,7 @@ module _ (b : List ℕ) (next : ℕ) (s : Zonotope) where
   dimension-same tied p = same _ _ (p .dimension)
   dimension-same reduction p = refl
   dimension-same check p = same _ _ (p .dimension)
+  dimension-same hull p = same _ _ (p .dimension)
   dimension-same unknown p = refl
 
 -- ---- what it leaves
@@ -112,6 +117,14 @@ leaves independent b next s l h p =
       holds = held-up (omega arith)
           (independent-held standardWeights (h refl) (omega arith) (valid-ready v)
           (given-dimension b ∙ dimension-same b next s independent p) (p .factors) (p .result-width));
+      no-less = omega arith;
+      at-most = omega arith;
+    }
+leaves hull b next s l h p =
+    let v = body-valid b next s hull p in
+    record {
+      holds = hull-held standardWeights (h refl) (omega arith) (valid-ready v) (given-dimension b ∙ dimension-same b next s hull p) (file-in l v)
+          (p .factors) (p .result-width);
       no-less = omega arith;
       at-most = omega arith;
     }

@@ -12,7 +12,7 @@ use lib.ListN.{getD}
 use Rattle.model.specs.Set.{Zonotope}
 use Rattle.model.specs.Operations.{Box, box, safe}
 use Rattle.model.specs.Body.{dimension, givenHalfspaces}
-use Rattle.model.specs.Field.{Kind, start, step, disturbance, independent, tied, reduction, check, unknown, inside, verdict}
+use Rattle.model.specs.Field.{Kind, start, step, disturbance, independent, tied, reduction, check, hull, unknown, inside, verdict}
 use Rattle.model.specs.Field.{meaning}
 use Rattle.model.specs.Run.{State, noSet, current, tag, body, kindOf, meant, refusal, accepted, after, outcome}
 use Rattle.model.specs.Points.{Vector, Point, InRange}
@@ -34,6 +34,7 @@ unfolding meaning
 answered-box start b next s x e = cc
 answered-box tied b next s x e = cc
 answered-box independent b next s x e = cc
+answered-box hull b next s x e = cc
 answered-box step b next s x e = cc
 answered-box disturbance b next s x e = cc
 answered-box reduction b next s x e = cc
@@ -50,6 +51,7 @@ answered-safe check b next s {α} {x} q w i e u =
     u)
 answered-safe start b next s q w i e u = let z : _≡_ {A = ℕ} 0 1 = cc in omega arith
 answered-safe tied b next s q w i e u = let z : _≡_ {A = ℕ} 0 1 = cc in omega arith
+answered-safe hull b next s q w i e u = let z : _≡_ {A = ℕ} 0 1 = cc in omega arith
 answered-safe independent b next s q w i e u = let z : _≡_ {A = ℕ} 0 1 = cc in omega arith
 answered-safe step b next s q w i e u = let z : _≡_ {A = ℕ} 0 1 = cc in omega arith
 answered-safe disturbance b next s q w i e u = let z : _≡_ {A = ℕ} 0 1 = cc in omega arith
@@ -62,6 +64,7 @@ unfolding meaning markAfter
 next-counted start b next s = refl
 next-counted tied b next s = refl
 next-counted independent b next s = refl
+next-counted hull b next s = refl
 next-counted step b next s = refl
 next-counted disturbance b next s = refl
 next-counted reduction b next s = refl
@@ -156,14 +159,14 @@ module _ (p : Picks) (m : ℕ) (now : Moment) (f : List ℕ) (g : Good p now) (i
   position = move (kindOf (tag f)) (body f) p m (now .position)
 
   values-in : InRange values
-  values-in = values-range (body f) p m (now .mark) (now .values) (kindOf (tag f)) (g .ranged) (i .own)
+  values-in = values-range (body f) p m (now .mark) (now .values) (kindOf (tag f)) (g .ranged) (i .own) (i .blend)
 
   -- the motion after an accepted field is in its result
   result-point : T (accepted (now .state) f) → Point (meant (now .state) f .result) values position
   result-point t =
       let a = accepted-passed (now .state) f t in
       subst (λ n. Point (meant (now .state) f .result) (valuesAfter (kindOf (tag f)) (body f) p m n (now .values)) position) (sym (g .counted))
-      (keeps (body f) p m (now .state .next) (current (now .state)) (g .ranged) (g .agree) (kindOf (tag f)) i
+      (keeps (body f) p m (now .state .next) (current (now .state)) (g .sound .from-first) (g .ranged) (g .agree) (kindOf (tag f)) i
       (λ e. let h = current-held (g .sound) f a e in (h, g .in-set (begun (g .sound) h))) (a .passed))
 
   -- a state's current set after it
@@ -234,4 +237,4 @@ begin-good p w = record { sound = begin-sound; counted = refl; ranged = w; agree
 pub enclosed : Enclosed
 enclosed fields p a =
     always p 0 (beginning p) fields (begin-good p (a .values))
-    (λ j. rw (zero-add j) (record { own = a .own j; numbers = a .numbers j; offsets = a .offsets j }))
+    (λ j. rw (zero-add j) (record { own = a .own j; numbers = a .numbers j; blend = a .blend j; offsets = a .offsets j }))

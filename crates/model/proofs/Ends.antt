@@ -49,7 +49,7 @@ module _ (value : List ℤ → ℤ) where
       (≤ℚ-+ (least-below (allEven (t .exponents)) (value (t .coefficients)) (monomial-within w ids (t .exponents))
       (monomial-even α ids (t .exponents))) (terms-low w ids ts))
 
-  generators-within : (gs : List (List ℤ)) {bs : List ℚ} → All (λ b. Within b 1ℚ) bs
+  pub generators-within : (gs : List (List ℤ)) {bs : List ℚ} → All (λ b. Within b 1ℚ) bs
       → Within (total (generatorParts gs bs)) (ι (pos (sumℕ (λ g. natAbs (value g)) gs)))
   unfolding generatorParts sum sumBy
   generators-within [] h = within-NonNeg (NonNeg-ι 0) (≤ℚ-refl 0ℚ)

@@ -1,27 +1,30 @@
 -- What a run holds: a valid set whose identifiers are below the next fresh one. Each operation leaves such a set where its result is not
 -- too wide.
 use mathlib.Core.Path.{_≡_, sym, _∙_}
-use mathlib.Core.List.{List}
+use mathlib.Core.List.{List, [], _∷_}
 use mathlib.Core.Bool.{false}
 use Prim.Native.Nat.{ℕ, suc, _+_, _<_, _≤_}
 use native.Mathlib.Nat.{le-trans}
 use native.Mathlib.Omega.{arith}
-use lib.ListN.{length}
+use lib.ListN.{length, length-append}
 use borrow.Author.Tests.{ltb-false}
-use Rattle.rational.specs.Sum.{All, All-imp}
+use Rattle.rational.specs.Sum.{All, none, more, All-imp, All-++}
 use Rattle.model.specs.Limits.{maxDimension, maxFactors, maxTerms, maxGenerators}
 use Rattle.model.specs.Set.{Zonotope}
 use Rattle.model.specs.Valid.{badCounts, badOrder, tooWide}
 use Rattle.model.specs.Finish.{finish}
 use Rattle.model.specs.Step as Step
-use Rattle.model.specs.Operations.{joined, tiedSum, renumbered, independentSum, disturb, reduce}
-use Rattle.model.specs.Field.{tooMany}
+use Rattle.model.specs.Step.{rounded}
+use Rattle.model.specs.Hull.{blended, hull}
+use Rattle.model.specs.Operations.{union, joined, tiedSum, renumbered, independentSum, disturb, reduce}
+use Rattle.model.specs.Field.{tooMany, tooManyBlended}
 use Rattle.model.proofs.Vectors.{longer-length}
 use Rattle.model.proofs.Lists.{sublist-all, sublist-length, all-both}
 use Rattle.model.proofs.Shape.{Shaped, Low, Counts, Ordered, Valid, counted, counts-false, ranged, ranges-false, in-order}
 use Rattle.model.proofs.Shape.{order-false}
 use Rattle.model.proofs.Finished.{Ready, ordered-ready, finished}
-use Rattle.model.proofs.StepShape.{step-ready}
+use Rattle.model.proofs.StepShape.{rounded-ready, step-ready}
+use Rattle.model.proofs.HullShape.{blended-ready}
 use Rattle.model.proofs.Union.{union-all}
 use Rattle.model.proofs.SumShape.{joined-ready, renumbered-ready, renumbered-dimension, renumbered-in}
 
@@ -151,6 +154,19 @@ unfolding independentSum
 independent-held weights {next} {u = u} h some r e few w =
     sum-held weights (held-up (omega arith) h) (renumbered-ready next r) (renumbered-dimension next u ∙ e)
     (All-imp (λ k i. (le-trans some (i .0), i .1)) (renumbered-in next u)) few w
+
+-- the blending factor's identifier is next
+pub hull-held : (weights : List ℕ) {next : ℕ} {s u : Zonotope} → Held next s → 0 < next → Ready u → u .dimension ≡ s .dimension
+    → All (λ k. (0 < k) × (k < next)) (u .identifiers) → tooManyBlended s u ≡ false → tooWide (hull weights next s u) ≡ false
+    → Held (next + 1) (hull weights next s u)
+unfolding hull rounded blended joined
+hull-held weights {next} {s} {u} h some r e i few w = finish-held weights (omega arith) (omega arith) (record {
+  ready = rounded-ready (blended-ready (held-ready h) r e (All-imp (λ k p. p .1) (h .identifiers-in)) (All-imp (λ k p. p .1) i));
+  dimension-some = h .counts .dimension-some;
+  dimension-few = h .counts .dimension-few;
+  factors-few = omega (arith, length-append (union (s .identifiers) (u .identifiers)) (next ∷ []), ltb-false maxFactors (length (union (s .identifiers) (u .identifiers)) + 1) few);
+  identifiers-in = All-++ (All-imp (λ k p. (p .0, omega arith)) (union-all (h .identifiers-in) i)) (more (some, omega arith) none);
+}) w
 
 pub disturb-held : {next : ℕ} {s : Zonotope} → Held next s → (r : List ℕ) → length r ≡ s .dimension → tooWide (disturb r s) ≡ false
     → Held next (disturb r s)

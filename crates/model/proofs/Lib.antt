@@ -78,6 +78,8 @@ pub mod Remainder
 pub mod RawPoint
 pub mod Rounded
 pub mod StepPoint
+pub mod HullShape
+pub mod HullPoint
 pub mod Close
 pub mod Ends
 pub mod BoxPoint

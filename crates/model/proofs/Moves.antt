@@ -1,6 +1,6 @@
 -- Each kind of field keeps every motion: where the motion is in the given set at its values, it is in the field's result after it.
 -- A later kind of field joins the whole-run theorem by one more clause of `keeps`.
-use mathlib.Core.Path.{_≡_, refl, sym, _∙_, ap}
+use mathlib.Core.Path.{_≡_, refl, sym, _∙_, ap, subst}
 use mathlib.Core.List.{List}
 use mathlib.Core.Bool.{Bool, true, false, cond}
 use Prim.Native.Nat.{ℕ, _+_, _-_, _<_, _≤_}
@@ -10,7 +10,7 @@ use lib.ListN.{length, getD}
 use lib.IntN.{pos}
 use borrow.Author.Tests.{lt-ltb, le-ltb}
 use Rattle.whole.specs.Tab.{tab, length-tab}
-use Rattle.rational.specs.Rational.{ℚ, ι, 1ℚ}
+use Rattle.rational.specs.Rational.{ℚ, _+ℚ_, _-ℚ_, _*ℚ_, ι, ½, 1ℚ}
 use Rattle.rational.specs.Bounds.{Within}
 use Rattle.rational.specs.Sum.{All, All-imp}
 use Rattle.model.specs.Limits.{firstFresh, fileIdentifiers, maxTerms, maxGenerators, standardWeights}
@@ -18,8 +18,9 @@ use Rattle.model.specs.Set.{Zonotope, radius}
 use Rattle.model.specs.Valid.{rises}
 use Rattle.model.specs.Step as Step
 use Rattle.model.specs.Operations.{reduce}
+use Rattle.model.specs.Hull as Hull
 use Rattle.model.specs.Body.{givenSet, givenStep, givenRadii, termLimit, generatorLimit}
-use Rattle.model.specs.Field.{Kind, start, step, disturbance, independent, tied, reduction, check, unknown, meaning}
+use Rattle.model.specs.Field.{Kind, start, step, disturbance, independent, tied, reduction, check, hull, unknown, meaning}
 use Rattle.model.specs.Points.{Vector, Point, InRange}
 use Rattle.model.specs.Motion.{Picks, bodyPoint, offsetLimit, move, valuesAfter}
 use Rattle.model.specs.Precision.{Renumbers}
@@ -32,11 +33,13 @@ use Rattle.model.proofs.Values.{same-values}
 use Rattle.model.proofs.SumPoints.{tied-point, independent-point, disturbed-point}
 use Rattle.model.proofs.FinishCovers.{finish-covers}
 use Rattle.model.proofs.StepPoint.{step-point}
+use Rattle.model.proofs.HullPoint.{hull-point}
 
 -- the picks at field m are inside their limits
 pub record Inside (p : Picks) (m : ℕ) (k : Kind) (b : List ℕ) : Type 0 where
   pub own : InRange (p .own m)
   pub numbers : (j : ℕ) → Within (p .numbers m j) 1ℚ
+  pub blend : Within (p .blend m) 1ℚ
   pub offsets : (i : ℕ) → Within (p .offsets m i) (ι (pos (offsetLimit k b i)))
 
 -- ---- a body's point is a point of the body
@@ -60,6 +63,18 @@ file-agrees p {s = s} e v = All-imp (λ k h. e k (below k (h .1))) (ranged fileI
     below : (k : ℕ) → k ≤ fileIdentifiers → k < firstFresh
     below k h = omega arith
 
+-- the same for values that agree with the current ones below `next`
+file-values : (p : Picks) {α γ : Vector} {s : Zonotope} {next : ℕ} → firstFresh ≤ next → Agree p α → ((k : ℕ) → k < next → γ k ≡ α k)
+    → Valid fileIdentifiers s → All (λ k. p .values k ≡ γ k) (s .identifiers)
+file-values p {s = s} {next = next} l e f v =
+    All-imp (λ k h. e k (below k (h .1)) ∙ sym (f k (under k (h .1)))) (ranged fileIdentifiers s (v .ranges) .identifiers-in)
+  where
+    below : (k : ℕ) → k ≤ fileIdentifiers → k < firstFresh
+    below k h = omega arith
+
+    under : (k : ℕ) → k ≤ fileIdentifiers → k < next
+    under k h = omega arith
+
 rising : {s : Zonotope} → Ordered s → rises ltb (s .identifiers) ≡ true
 rising o = true-rises ltb (λ a b h. lt-ltb a b h) (o .identifiers-rise)
 
@@ -79,6 +94,7 @@ module _ (b : List ℕ) (p : Picks) (m next : ℕ) (α : Vector) where
   old-value check j h = refl
   old-value unknown j h = refl
   old-value independent j h = rw (lt-ltb j next h)
+  old-value hull j h = rw (lt-ltb j next h)
 
   -- a fresh one takes the sum's own value of the body's identifier
   new-value : Renumbers next (givenSet b .identifiers) (p .own m) (valuesAfter independent b p m next α)
@@ -87,20 +103,26 @@ module _ (b : List ℕ) (p : Picks) (m next : ℕ) (α : Vector) where
       let e : next + j - next ≡ j = omega arith in
       rw (le-ltb (next + j) next (omega arith)) (ap (λ i. p .own m (getD (givenSet b .identifiers) i 0)) e)
 
-  -- every value stays in [-1,1]
-  pub values-range : (k : Kind) → InRange α → InRange (p .own m) → InRange (valuesAfter k b p m next α)
+  -- a hull's is the blend
+  blend-value : valuesAfter hull b p m next α next ≡ p .blend m
   unfolding valuesAfter
-  values-range start w o j = w j
-  values-range step w o j = w j
-  values-range disturbance w o j = w j
-  values-range tied w o j = w j
-  values-range reduction w o j = w j
-  values-range check w o j = w j
-  values-range unknown w o j = w j
-  values-range independent w o j = cond-range (ltb j next) (w j) (o _)
+  blend-value = rw (le-ltb next next (omega arith))
+
+  -- every value stays in [-1,1]
+  pub values-range : (k : Kind) → InRange α → InRange (p .own m) → Within (p .blend m) 1ℚ → InRange (valuesAfter k b p m next α)
+  unfolding valuesAfter
+  values-range start w o c j = w j
+  values-range step w o c j = w j
+  values-range disturbance w o c j = w j
+  values-range tied w o c j = w j
+  values-range reduction w o c j = w j
+  values-range check w o c j = w j
+  values-range unknown w o c j = w j
+  values-range independent w o c j = cond-range (ltb j next) (w j) (o _)
+  values-range hull w o c j = cond-range (ltb j next) (w j) c
 
 -- ---- the kinds
-module _ (b : List ℕ) (p : Picks) (m next : ℕ) (s : Zonotope) {α x : Vector} (w : InRange α) (agree : Agree p α) where
+module _ (b : List ℕ) (p : Picks) (m next : ℕ) (s : Zonotope) {α x : Vector} (l : firstFresh ≤ next) (w : InRange α) (agree : Agree p α) where
   pub keeps : (k : Kind) → Inside p m k b → (starts k ≡ false → Held next s × Point s α x) → Passed (meaning k b next s)
       → Point (meaning k b next s .result) (valuesAfter k b p m next α) (move k b p m x)
   unfolding meaning valuesAfter move offsetLimit Step.step reduce givenStep
@@ -112,10 +134,22 @@ module _ (b : List ℕ) (p : Picks) (m next : ℕ) (s : Zonotope) {α x : Vector
       let y = same-values (file-agrees p agree v) .0 (body-point p m (givenSet b) (p .values) (i .numbers) (i .offsets)) in
       tied-point standardWeights w (rising (h refl .0 .ordered)) (sym (given-dimension b ∙ dimension-same b next s tied q)) (h refl .1) y
   keeps independent i h q =
-      independent-point standardWeights next (values-range b p m next α independent w (i .own)) (rising (h refl .0 .ordered))
+      independent-point standardWeights next (values-range b p m next α independent w (i .own) (i .blend)) (rising (h refl .0 .ordered))
       (sym (given-dimension b ∙ dimension-same b next s independent q)) (All-imp (λ k h. h .1) (h refl .0 .identifiers-in))
       (old-value b p m next α independent) (new-value b p m next α) (h refl .1)
       (body-point p m (givenSet b) (p .own m) (i .numbers) (i .offsets))
+  keeps hull i h q =
+      let v = body-valid b next s hull q in
+      let γ = valuesAfter hull b p m next α in
+      let e = blend-value b p m next α in
+      let old = old-value b p m next α hull in
+      let s-in = same-values {s = s} {α = α} {β = γ} (All-imp (λ k h. sym (old k (h .1))) (h refl .0 .identifiers-in)) .0 (h refl .1) in
+      let u-in = same-values {s = givenSet b} {α = p .values} {β = γ} (file-values p l agree old v) .0
+      (body-point p m (givenSet b) (p .values) (i .numbers) (i .offsets)) in
+      subst (λ (c : ℚ). Point (Hull.hull standardWeights next s (givenSet b)) γ
+      (λ j. ½ *ℚ ((1ℚ +ℚ c) *ℚ x j +ℚ (1ℚ -ℚ c) *ℚ bodyPoint p m (givenSet b) (p .values) j))) e
+      (hull-point standardWeights next (values-range b p m next α hull w (i .own) (i .blend)) (rising (h refl .0 .ordered))
+      (sym (given-dimension b ∙ dimension-same b next s hull q)) s-in u-in)
   keeps step i h q =
       finish-covers standardWeights maxTerms maxGenerators _ .keeps w
       (step-point (givenStep b) s (sym (dimension-same b next s step q)) w (h refl .1))

@@ -68,7 +68,7 @@ sign (suc zero) = 1ℚ
 sign (suc (suc m)) = negℚ 1ℚ
 
 abbrev picks : Picks
-picks = record { values = λ k. 1ℚ; own = λ m k. sign m; numbers = λ m j. 0ℚ; offsets = λ m i. 0ℚ }
+picks = record { values = λ k. 1ℚ; own = λ m k. sign m; numbers = λ m j. 0ℚ; offsets = λ m i. 0ℚ; blend = λ m. 0ℚ }
 
 zero-within : (n : ℕ) → Within 0ℚ (ι (pos n))
 zero-within n = within-NonNeg (NonNeg-ι 0) (NonNeg-≤ (NonNeg-ι n))
@@ -79,7 +79,7 @@ sign-within (suc zero) = within-one
 sign-within (suc (suc m)) = within-neg within-one
 
 allowed : Allowed picks fields
-allowed = record { values = λ k. within-one; own = λ m k. sign-within m; numbers = λ m j. zero-within 1; offsets = λ m i. zero-within _ }
+allowed = record { values = λ k. within-one; own = λ m k. sign-within m; numbers = λ m j. zero-within 1; offsets = λ m i. zero-within _; blend = λ m. zero-within 1 }
 
 -- ---- where it is after the three fields, and the box that the old edition answers
 abbrev first : Moment

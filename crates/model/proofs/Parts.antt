@@ -155,7 +155,7 @@ parts-ranged {s} w p = All-++ (terms-ranged w (s .identifiers) (s .terms)) (gene
 
 -- ---- folding a part, at one coordinate
 -- μ·a + ν·b with μ + ν = 1 is no larger than a and b
-convex : {a b r μ ν : ℚ} → Within a r → Within b r → NonNeg μ → NonNeg ν → μ +ℚ ν ≡ 1ℚ → Within (μ *ℚ a +ℚ ν *ℚ b) r
+pub convex : {a b r μ ν : ℚ} → Within a r → Within b r → NonNeg μ → NonNeg ν → μ +ℚ ν ≡ 1ℚ → Within (μ *ℚ a +ℚ ν *ℚ b) r
 convex {a} {b} {r} {μ} {ν} wa wb nμ nν e =
     subst (Within (μ *ℚ a +ℚ ν *ℚ b)) (sym (+ℚ-*ℚ μ ν r) ∙ ap (_*ℚ r) e ∙ one-*ℚ r)
     (within-+ (within-* (within-NonNeg nμ (≤ℚ-refl μ)) wa) (within-* (within-NonNeg nν (≤ℚ-refl ν)) wb))

@@ -8,14 +8,14 @@ use lib.Dec.{eqb}
 use lib.ListN.{length-map}
 use borrow.Author.Tests.{eqb-false, ne-eqb}
 use Rattle.whole.specs.Round.{round}
-use Rattle.whole.specs.Tab.{tab, all, length-tab}
+use Rattle.whole.specs.Tab.{all, length-tab}
 use Rattle.rational.specs.Sum.{All, none, more, All-imp, All-map, All-++}
 use Rattle.model.specs.Set.{Term, Zonotope, longer, plusℕ}
 use Rattle.model.specs.Valid.{factorless}
 use Rattle.model.specs.Step.{Step, own, paired, pairs, rawCentre, rawLinear, raw, rounded}
 use Rattle.model.proofs.Vectors.{longer-length}
 use Rattle.model.proofs.Lists.{all-both}
-use Rattle.model.proofs.Shape.{Row}
+use Rattle.model.proofs.Shape.{Row, Shaped}
 use Rattle.model.proofs.Finished.{Ready}
 
 -- the sum of exponents has a factor where the first row has one
@@ -63,23 +63,43 @@ module _ (p : Step) (s : Zonotope) {m n : ℕ} where
       )
       (All-++ (All-map (paired p s t) (All-imp (λ u k. paired-factored t u h k) r)) (pairs-factored r))
 
--- The image of a set that is ready for finishing, or finished, is ready.
-pub step-ready : (p : Step) {s : Zonotope} → Ready s → Ready (rounded (raw p s))
-unfolding rounded raw
-step-ready p {s} r =
+-- Rounding keeps the shape of a set, and a set that is ready for finishing so.
+pub rounded-shaped : {r : Zonotope} → Shaped r → Shaped (rounded r)
+unfolding rounded
+rounded-shaped {r} h = record {
+  centre-long = length-map (r .centre) round ∙ h .centre-long;
+  radii-long = length-tab (r .dimension) _;
+  rows = All-map _ (All-imp (λ t p. record {
+    exponents-long = p .exponents-long;
+    coefficients-long = length-map (t .coefficients) round ∙ p .coefficients-long;
+  }) (h .rows));
+  generators-long = All-map (map round) (All-imp (λ g e. length-map g round ∙ e) (h .generators-long));
+}
+
+pub rounded-ready : {r : Zonotope} → Ready r → Ready (rounded r)
+unfolding rounded
+rounded-ready h = record {
+  shaped = rounded-shaped (h .shaped);
+  identifiers-rise = h .identifiers-rise;
+  has-factors = All-map _ (h .has-factors);
+}
+
+-- The image of a set that is ready for finishing, or finished, is ready, in raw units and rounded.
+raw-ready : (p : Step) {s : Zonotope} → Ready s → Ready (raw p s)
+unfolding raw
+raw-ready p {s} r =
     let terms = all-both (r .shaped .rows) (r .has-factors) in
     let image = All-++ (All-map (own p s) (All-imp (own-factored p s) terms)) (pairs-factored p s terms) in
     record {
       shaped = record {
-        centre-long = length-map (tab (p .rows) (rawCentre p s)) round ∙ length-tab (p .rows) (rawCentre p s);
+        centre-long = length-tab (p .rows) (rawCentre p s);
         radii-long = length-tab (p .rows) _;
-        rows = All-map _ (All-imp (λ t h. record {
-          exponents-long = h .0 .exponents-long;
-          coefficients-long = length-map (t .coefficients) round ∙ h .0 .coefficients-long;
-        }) image);
-        generators-long = All-map (map round) (All-map _ (All-imp (λ g h. length-map (tab (p .rows) (rawLinear p s g)) round
-            ∙ length-tab (p .rows) (rawLinear p s g)) (r .shaped .generators-long)));
+        rows = All-imp (λ t h. h .0) image;
+        generators-long = All-map _ (All-imp (λ g h. length-tab (p .rows) (rawLinear p s g)) (r .shaped .generators-long));
       };
       identifiers-rise = r .identifiers-rise;
-      has-factors = All-map _ (All-imp (λ t h. h .1) image);
+      has-factors = All-imp (λ t h. h .1) image;
     }
+
+pub step-ready : (p : Step) {s : Zonotope} → Ready s → Ready (rounded (raw p s))
+step-ready p r = rounded-ready (raw-ready p r)

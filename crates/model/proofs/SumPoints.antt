@@ -37,7 +37,7 @@ aligned-terms α ms s f i =
     (λ t. ι (at (t .coefficients) i) *ℚ monomial α (s .identifiers) (t .exponents)) (s .terms)
     (λ t. ap (ι (at (t .coefficients) i) *ℚ_) (sym (monomial-aligned α f (t .exponents))))
 
-terms-++ : (α : Vector) (ids : List ℕ) (k l : List Term) (i : ℕ) → termsAt α ids (k ++ l) i ≡ termsAt α ids k i +ℚ termsAt α ids l i
+pub terms-++ : (α : Vector) (ids : List ℕ) (k l : List Term) (i : ℕ) → termsAt α ids (k ++ l) i ≡ termsAt α ids k i +ℚ termsAt α ids l i
 unfolding termsAt
 terms-++ α ids k l i = sum-++ (λ t. ι (at (t .coefficients) i) *ℚ monomial α ids (t .exponents)) k l
 
@@ -47,21 +47,34 @@ generators-++ g h b c e i =
     generators-spread (g ++ h) (b ++ c) i ∙ ap (λ ps. spread ps i) (generatorParts-++ g h b c e)
     ∙ spread-++ (generatorParts g b) (generatorParts h c) i ∙ sym (ap₂ _+ℚ_ (generators-spread g b i) (generators-spread h c i))
 
+-- centre and terms of the sum are the sums of those
+abbrev pub mainAt : Zonotope → Vector → ℕ → ℚ
+mainAt s α i = ι (at (s .centre) i) +ℚ termsAt α (s .identifiers) (s .terms) i
+
+pub joined-main : (s u : Zonotope) → rises ltb (s .identifiers) ≡ true → (α : Vector) (i : ℕ)
+    → mainAt (joined s u) α i ≡ mainAt s α i +ℚ mainAt u α i
+unfolding joined
+joined-main s u r α i = let ms = union (s .identifiers) (u .identifiers) in
+    ap₂ _+ℚ_ (ap ι (plusℤ-at (s .centre) (u .centre) i) ∙ ι-+ (at (s .centre) i) (at (u .centre) i))
+    (terms-++ α ms (aligned ms s) (aligned ms u) i
+    ∙ ap₂ _+ℚ_ (aligned-terms α ms s (found-left (s .identifiers) (u .identifiers) r) i)
+    (aligned-terms α ms u (found-right (s .identifiers) (u .identifiers)) i))
+    ∙ regroup (ι (at (s .centre) i)) (ι (at (u .centre) i)) (termsAt α (s .identifiers) (s .terms) i)
+    (termsAt α (u .identifiers) (u .terms) i)
+  where
+    regroup : (a b c d : ℚ) → (a +ℚ b) +ℚ (c +ℚ d) ≡ (a +ℚ c) +ℚ (b +ℚ d)
+    regroup a b c d = simp ring
+
 -- the value of the sum is the sum of the values
 pub joined-value : (s u : Zonotope) → rises ltb (s .identifiers) ≡ true → (α : Vector) (b c : List ℚ) → length b ≡ length (s .generators)
     → (i : ℕ) → valueAt (joined s u) α (b ++ c) i ≡ valueAt s α b i +ℚ valueAt u α c i
 unfolding valueAt joined
-joined-value s u r α b c e i = let ms = union (s .identifiers) (u .identifiers) in
-    ap₂ _+ℚ_ (ap₂ _+ℚ_ (ap ι (plusℤ-at (s .centre) (u .centre) i) ∙ ι-+ (at (s .centre) i) (at (u .centre) i))
-    (terms-++ α ms (aligned ms s) (aligned ms u) i
-    ∙ ap₂ _+ℚ_ (aligned-terms α ms s (found-left (s .identifiers) (u .identifiers) r) i)
-    (aligned-terms α ms u (found-right (s .identifiers) (u .identifiers)) i)))
-    (generators-++ (s .generators) (u .generators) b c e i)
-    ∙ regroup (ι (at (s .centre) i)) (ι (at (u .centre) i)) (termsAt α (s .identifiers) (s .terms) i)
-    (termsAt α (u .identifiers) (u .terms) i) (generatorsAt (s .generators) b i) (generatorsAt (u .generators) c i)
+joined-value s u r α b c e i =
+    ap₂ _+ℚ_ (joined-main s u r α i) (generators-++ (s .generators) (u .generators) b c e i)
+    ∙ regroup (mainAt s α i) (mainAt u α i) (generatorsAt (s .generators) b i) (generatorsAt (u .generators) c i)
   where
-    regroup : (a b c d e f : ℚ) → (a +ℚ b) +ℚ (c +ℚ d) +ℚ (e +ℚ f) ≡ (a +ℚ c +ℚ e) +ℚ (b +ℚ d +ℚ f)
-    regroup a b c d e f = simp ring
+    regroup : (a b c d : ℚ) → (a +ℚ b) +ℚ (c +ℚ d) ≡ (a +ℚ c) +ℚ (b +ℚ d)
+    regroup a b c d = simp ring
 
 -- radii add
 added-radius : (r q : List ℕ) (i : ℕ) → ι (pos (getD r i 0)) +ℚ ι (pos (getD q i 0)) ≡ ι (pos (getD (plusℕ r q) i 0))

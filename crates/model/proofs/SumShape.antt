@@ -23,7 +23,7 @@ use Rattle.model.proofs.Union.{union-rising}
 use Rattle.model.proofs.Finished.{Ready}
 
 -- ---- exponents written for the union
-align-length : (ks es ms : List ℕ) → length (align ks es ms) ≡ length ms
+pub align-length : (ks es ms : List ℕ) → length (align ks es ms) ≡ length ms
 unfolding align
 align-length ks es [] = refl
 align-length [] es (m ∷ ms) = ap suc (align-length [] es ms)

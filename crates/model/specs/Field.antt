@@ -14,13 +14,14 @@ use Rattle.model.specs.Set.{Zonotope}
 use Rattle.model.specs.Valid.{badRange, badOrder, tooWide}
 use Rattle.model.specs.Step as Step
 use Rattle.model.specs.Operations.{tiedSum, independentSum, renumbered, union, disturb, reduce, Box, box, safe}
+use Rattle.model.specs.Hull as Hull
 use Rattle.model.specs.Body.{dimension, factors, termCount, generatorCount, setLength, radiusWords, givenSet, stepRows, stepColumns}
 use Rattle.model.specs.Body.{stepLength, givenStep, disturbanceWords, givenRadii, termLimit, generatorLimit, halfspaceCount}
 use Rattle.model.specs.Body.{halfspaceAt, givenHalfspaces}
 
--- tags 1 to 7 have a kind; any other is unknown
+-- tags 1 to 8 have a kind; any other is unknown
 pub data Kind : Type 0 where
-  start step disturbance independent tied reduction check unknown : Kind
+  start step disturbance independent tied reduction check hull unknown : Kind
 
 -- a box, a verdict (safe or unknown), or a refusal with its number and the position of the field's first byte;
 -- a field after a refusal is skipped
@@ -89,6 +90,10 @@ ofSet b wrongDimension manyFactors result next = record {
 abbrev pub tooMany : Zonotope → Zonotope → Bool
 tooMany s u = ltb maxFactors (length (union (s .identifiers) (u .identifiers)))
 
+-- whether they and a blending factor are too many
+abbrev pub tooManyBlended : Zonotope → Zonotope → Bool
+tooManyBlended s u = ltb maxFactors (length (union (s .identifiers) (u .identifiers)) + 1)
+
 -- ---- the kinds
 unfoldable pub meaning : Kind → List ℕ → ℕ → Zonotope → Meaning
 meaning start b next s = ofSet b false false (givenSet b) next
@@ -97,6 +102,8 @@ meaning tied b next s =
 meaning independent b next s =
     ofSet b (differs (dimension b) (s .dimension)) (tooMany s (renumbered next (givenSet b)))
     (independentSum standardWeights next s (givenSet b)) (next + factors b)
+meaning hull b next s =
+    ofSet b (differs (dimension b) (s .dimension)) (tooManyBlended s (givenSet b)) (Hull.hull standardWeights next s (givenSet b)) (next + 1)
 meaning step b next s = let result = Step.step standardWeights (givenStep b) s in record {
   countBytes = 2;
   wrongCounts = badDimension (stepRows b) || badDimension (stepColumns b);

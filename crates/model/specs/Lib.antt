@@ -4,6 +4,7 @@
 --     Finish       what becomes of every result: collect, drop, fold, reduce
 --     Step         the polynomial step: raw numbers, rounding, the new radius
 --     Operations   sums, disturbance, reduction, box, check
+--     Hull         the hull with a second set
 --     Bytes, Body  numbers in a run file, and what the body of a field says
 --     Field        the kinds of field: what each asks and gives
 --     Run          the state, the refusals in their order, one field, a list of fields, a whole input
@@ -21,6 +22,7 @@ pub mod Valid
 pub mod Finish
 pub mod Step
 pub mod Operations
+pub mod Hull
 pub mod Bytes
 pub mod Body
 pub mod Field

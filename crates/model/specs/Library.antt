@@ -15,7 +15,8 @@ use Rattle.model.specs.Set.{Zonotope}
 use Rattle.model.specs.Valid.{badCounts, badRange, badOrder, tooWide}
 use Rattle.model.specs.Step as Step
 use Rattle.model.specs.Operations.{tiedSum, independentSum, renumbered, disturb, reduce}
-use Rattle.model.specs.Field.{badDimension, beyond, differs, tooMany}
+use Rattle.model.specs.Hull.{hull}
+use Rattle.model.specs.Field.{badDimension, beyond, differs, tooMany, tooManyBlended}
 use Rattle.model.specs.Run.{Cause, _if_, firstOf}
 
 -- a record as it is read: its set, and whether a place that the counts leave unused isn't 0
@@ -66,6 +67,15 @@ independentRefusal next g h =
     ++ ((11 if badNext next (g .set))
     ∷ (9 if tooMany (g .set) (renumbered next (h .set)))
     ∷ (10 if tooWide (independentSum standardWeights next (g .set) (h .set)))
+    ∷ []))
+
+-- a hull: the next identifier is above both sets' identifiers
+unfoldable pub hullRefusal : ℕ → Given → Given → Option ℕ
+hullRefusal next g h =
+    firstOf (ofFirst g ++ ofSecond g h
+    ++ ((11 if badNext next (g .set) || badNext next (h .set))
+    ∷ (9 if tooManyBlended (g .set) (h .set))
+    ∷ (10 if tooWide (hull standardWeights next (g .set) (h .set)))
     ∷ []))
 
 -- radii for n coordinates, added to a set of this dimension: 4, 3, 5, 6

@@ -8,7 +8,7 @@ use lib.ListN.{length, getD}
 use lib.IntN.{pos}
 use Rattle.whole.specs.Round.{scale}
 use Rattle.whole.specs.Tab.{tab}
-use Rattle.rational.specs.Rational.{ℚ, _+ℚ_, _*ℚ_, ι, _over_, 0ℚ, 1ℚ, _≤ℚ_}
+use Rattle.rational.specs.Rational.{ℚ, _+ℚ_, _-ℚ_, _*ℚ_, ι, _over_, ½, 0ℚ, 1ℚ, _≤ℚ_}
 use Rattle.rational.specs.Bounds.{Within}
 use Rattle.rational.specs.Sum.{sum, All}
 use Rattle.model.specs.Set.{Zonotope, at, radius}
@@ -16,7 +16,7 @@ use Rattle.model.specs.Step.{Step, linearAt, quadraticAt}
 use Rattle.model.specs.Operations.{Box, Halfspace}
 use Rattle.model.specs.Limits.{firstFresh}
 use Rattle.model.specs.Body.{dimension, factors, givenSet, givenStep, givenRadii, givenHalfspaces}
-use Rattle.model.specs.Field.{Kind, start, step, disturbance, independent, tied, reduction, check, unknown, inside}
+use Rattle.model.specs.Field.{Kind, start, step, disturbance, independent, tied, reduction, check, hull, unknown, inside}
 use Rattle.model.specs.Field.{verdict}
 use Rattle.model.specs.Run.{State, begin, current, tag, body, kindOf, accepted, after, outcome}
 use Rattle.model.specs.Points.{Vector, valueAt, Point, InRange}
@@ -31,12 +31,15 @@ pub record Picks : Type 0 where
   pub numbers : ℕ → ℕ → ℚ
   -- offsets within the radii of a set's body or of a disturbance
   pub offsets : ℕ → Vector
+  -- the blend of a hull: 1 for the current set's point, -1 for the body's
+  pub blend : ℕ → ℚ
 
 -- the largest offset that a field allows in coordinate i; a field that uses none allows 0
 unfoldable pub offsetLimit : Kind → List ℕ → ℕ → ℕ
 offsetLimit start b i = radius (givenSet b) i
 offsetLimit independent b i = radius (givenSet b) i
 offsetLimit tied b i = radius (givenSet b) i
+offsetLimit hull b i = radius (givenSet b) i
 offsetLimit disturbance b i = getD (givenRadii b) i 0
 offsetLimit step b i = 0
 offsetLimit reduction b i = 0
@@ -48,6 +51,7 @@ pub record Allowed (p : Picks) (fields : List (List ℕ)) : Type 0 where
   pub values : InRange (p .values)
   pub own : (m : ℕ) → InRange (p .own m)
   pub numbers : (m j : ℕ) → Within (p .numbers m j) 1ℚ
+  pub blend : (m : ℕ) → Within (p .blend m) 1ℚ
   pub offsets : (m i : ℕ) → let f = getD fields m [] in Within (p .offsets m i) (ι (pos (offsetLimit (kindOf (tag f)) (body f) i)))
 
 -- ---- where a motion goes, in exact arithmetic
@@ -72,14 +76,16 @@ move start b p m x i = bodyPoint p m (givenSet b) (p .values) i
 move step b p m x i = image (givenStep b) x i
 move tied b p m x i = x i +ℚ bodyPoint p m (givenSet b) (p .values) i
 move independent b p m x i = x i +ℚ bodyPoint p m (givenSet b) (p .own m) i
+move hull b p m x i = ½ *ℚ ((1ℚ +ℚ p .blend m) *ℚ x i +ℚ (1ℚ -ℚ p .blend m) *ℚ bodyPoint p m (givenSet b) (p .values) i)
 move disturbance b p m x i = x i +ℚ p .offsets m i
 move reduction b p m x i = x i
 move check b p m x i = x i
 move unknown b p m x i = x i
 
--- the values of identifiers: those that an independent sum made fresh, from `next` on, take that sum's own values
+-- the values of identifiers: those that an independent sum made fresh, from `next` on, take that sum's own values; a hull's is the blend
 unfoldable pub valuesAfter : Kind → List ℕ → Picks → ℕ → ℕ → Vector → Vector
 valuesAfter independent b p m next α k = cond (ltb k next) (α k) (p .own m (getD (givenSet b .identifiers) (k - next) 0))
+valuesAfter hull b p m next α k = cond (ltb k next) (α k) (p .blend m)
 valuesAfter start b p m next α k = α k
 valuesAfter step b p m next α k = α k
 valuesAfter tied b p m next α k = α k
@@ -88,9 +94,10 @@ valuesAfter reduction b p m next α k = α k
 valuesAfter check b p m next α k = α k
 valuesAfter unknown b p m next α k = α k
 
--- the mark that the accepted bodies count: an independent sum takes a number for each identifier of its body
+-- the mark that the accepted bodies count: an independent sum takes a number for each identifier of its body, a hull one
 unfoldable pub markAfter : Kind → List ℕ → ℕ → ℕ
 markAfter independent b mark = mark + factors b
+markAfter hull b mark = mark + 1
 markAfter start b mark = mark
 markAfter step b mark = mark
 markAfter tied b mark = mark

@@ -9,7 +9,7 @@ use Rattle.model.specs.Limits.{firstFresh, lastField}
 use Rattle.model.specs.Set.{Zonotope}
 use Rattle.model.specs.Valid.{tooWide}
 use Rattle.model.specs.Bytes.{byte, number}
-use Rattle.model.specs.Field.{Kind, start, step, disturbance, independent, tied, reduction, check, unknown}
+use Rattle.model.specs.Field.{Kind, start, step, disturbance, independent, tied, reduction, check, hull, unknown}
 use Rattle.model.specs.Field.{Outcome, refused, skipped, Meaning, meaning}
 
 -- ---- the state: the current set, if any; the next fresh identifier (document 01: the mark); how many fields were accepted; whether one
@@ -45,7 +45,7 @@ body f = take (bodyLength f) (drop 3 f)
 unfoldable pub kindOf : ℕ → Kind
 kindOf t =
     cond (eqb t 1) start (cond (eqb t 2) step (cond (eqb t 3) disturbance (cond (eqb t 4) independent
-    (cond (eqb t 5) tied (cond (eqb t 6) reduction (cond (eqb t 7) check unknown))))))
+    (cond (eqb t 5) tied (cond (eqb t 6) reduction (cond (eqb t 7) check (cond (eqb t 8) hull unknown)))))))
 
 -- what the field means in this state
 abbrev pub meant : State → List ℕ → Meaning
@@ -70,7 +70,7 @@ firstOf (c ∷ cs) = cond (c .holds) (some (c .number)) (firstOf cs)
 unfoldable pub misplaced : ℕ → List ℕ → Bool
 misplaced count [] = false
 misplaced zero (t ∷ f) = not (eqb t 1)
-misplaced (suc n) (t ∷ f) = ltb t 2 || ltb 7 t
+misplaced (suc n) (t ∷ f) = ltb t 2 || ltb 8 t
 
 -- the input ends inside the field
 unfoldable pub cut : List ℕ → Bool

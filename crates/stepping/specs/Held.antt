@@ -32,7 +32,7 @@ use Rattle.finish.specs.Held.{held, finishedAs}
 use Rattle.finish.specs.Wide.{wide, wideVector}
 use Rattle.finish.specs.WideFinish.{Narrow}
 use Rattle.answers.specs.Accepted.{AcceptedRecord, ready}
-use Rattle.answers.specs.Finishing.{Finishable, part, part-length, finished-held}
+use Rattle.answers.specs.Finishing.{Finishable, part, part-length, rows-part, part-small, finished-held}
 use Rattle.rational.specs.Sum.{All-imp}
 use Rattle.stepping.specs.Shortened.{withTerms, Shortened, shortened, finish-shortened}
 use Rattle.stepping.specs.Work.{workNumbers, workExponents}
@@ -55,23 +55,6 @@ for-image a = record {
   unused = a .passed .full;
   narrow = a .passed .narrow;
 }
-
--- ---- rows in the parts that hold them
-rows-part : (e : List ℕ) (w : List ℤ) (n : ℕ) → rowsOf (part (n * 12) e) (part (n * 6) w) n ≡ rowsOf e w n
-unfolding rowsOf
-rows-part e w n =
-    tab-cong n _ _ (λ t h. term-same
-    (tab-cong 12 _ _ (λ k l. getD-take (n * 12 - 0) e (t * 12 + k) 0 (omega arith)))
-    (tab-cong 6 _ _ (λ j l. getD-take (n * 6 - 0) w (t * 6 + j) (pos 0) (omega arith))))
-
--- numbers that are small in the first n places are small in the part that is lent
-part-small : (K n : ℕ) (w : List ℤ) → n ≤ length w → Bounded K n w → Small K (part n w)
-part-small K n w fits b = record { small = λ i. go i (decLt i n) }
-  where
-    go : (i : ℕ) → Dec (i < n) → natAbs (at (part n w) i) ≤ K
-    go i (yes l) = rw (getD-take (n - 0) w i (pos 0) (omega arith)) (b .bounded i l)
-    go i (no l) =
-        rw (List·getD-eq-default (part n w) (pos 0) {n = i} (omega (arith, part-length n w fits))) (omega arith)
 
 -- ---- generators in rows of six
 vector-rows : (gs : List (List ℤ)) → length gs ≤ 24 → tab (length gs) (numberRow (wideVectors gs)) ≡ map wideVector gs
@@ -158,7 +141,7 @@ module _ (p : Step) (s : PolyZonotope) (a : AcceptedRecord s) (ok : StepAccepted
           numbers-long = omega arith;
           generators-few = omega (arith, few .generators);
           generators-long = omega (arith, few .generators);
-          numbers-small = part-small imageLimit (rows * 6) w (omega arith) (d .small-terms);
+          numbers-small = part-small imageLimit (rows * 6) w (omega arith) (d .small-terms .bounded);
           generators-small = d .small-generators;
           centre-small = d .small-centre;
           radii-small = record { under = λ i. d .small-radii .below i };

@@ -9,7 +9,7 @@ use crate::step::{CONSTANT_LIMIT, ENTRY_LIMIT};
 
 pub fn body_of(field: &mut Field) -> Option<&mut Set> {
     match field {
-        Field::Start(body) | Field::Independent(body) | Field::Tied(body) => Some(body),
+        Field::Start(body) | Field::Independent(body) | Field::Tied(body) | Field::Hull(body) => Some(body),
         _ => None,
     }
 }
@@ -20,20 +20,22 @@ pub fn out_of_range(random: &mut Random, field: &mut Field) -> bool {
         *random.pick(&[limit + 1, -limit - 1, i128::from(i32::MAX), i128::from(i32::MIN)])
     };
     match field {
-        Field::Start(body) | Field::Independent(body) | Field::Tied(body) => match random.below(3) {
-            0 if !body.identifiers.is_empty() => {
-                let k = random.below(body.identifiers.len());
-                body.identifiers[k] = *random.pick(&[0, -1, MAX_FILE_IDENTIFIER + 1, i128::from(i32::MAX)]);
+        Field::Start(body) | Field::Independent(body) | Field::Tied(body) | Field::Hull(body) => {
+            match random.below(3) {
+                0 if !body.identifiers.is_empty() => {
+                    let k = random.below(body.identifiers.len());
+                    body.identifiers[k] = *random.pick(&[0, -1, MAX_FILE_IDENTIFIER + 1, i128::from(i32::MAX)]);
+                }
+                1 if !body.terms.is_empty() => {
+                    let (t, k) = (random.below(body.terms.len()), random.below(body.identifiers.len()));
+                    body.terms[t].exponents[k] = *random.pick(&[64, 65, 126, 128, 255]);
+                }
+                _ => {
+                    let i = random.below(body.dimension());
+                    body.radii[i] = *random.pick(&[-1, -2, i128::from(i32::MIN)]);
+                }
             }
-            1 if !body.terms.is_empty() => {
-                let (t, k) = (random.below(body.terms.len()), random.below(body.identifiers.len()));
-                body.terms[t].exponents[k] = *random.pick(&[64, 65, 126, 128, 255]);
-            }
-            _ => {
-                let i = random.below(body.dimension());
-                body.radii[i] = *random.pick(&[-1, -2, i128::from(i32::MIN)]);
-            }
-        },
+        }
         Field::Step(step) => {
             let (i, j, l) = (
                 random.below(step.constant.len()),
@@ -103,7 +105,8 @@ pub fn widen(random: &mut Random, body: &mut Set) {
 }
 
 pub fn break_tag(random: &mut Random, bytes: &mut [u8], first: bool) {
-    bytes[0] = if first { *random.pick(&[0, 2, 3, 4, 5, 6, 7, 8, 255]) } else { *random.pick(&[0, 1, 8, 9, 128, 255]) };
+    bytes[0] =
+        if first { *random.pick(&[0, 2, 3, 4, 5, 6, 7, 8, 9, 255]) } else { *random.pick(&[0, 1, 9, 10, 128, 255]) };
 }
 
 /// Makes the body longer or shorter, and the length that the field states with it.
@@ -123,7 +126,7 @@ pub fn break_length(random: &mut Random, bytes: &mut Vec<u8>) {
 pub fn break_count(random: &mut Random, bytes: &mut [u8]) {
     let [tag, _, _, counts @ ..] = bytes else { return };
     let (place, limit, from_zero) = match *tag {
-        1 | 4 | 5 => *random.pick(&[
+        1 | 4 | 5 | 8 => *random.pick(&[
             (0, MAX_DIMENSION, false),
             (1, MAX_FACTORS, true),
             (2, MAX_TERMS, true),

@@ -27,7 +27,7 @@ enum Make {
 }
 
 /// The kinds whose files a run accepts to the end.
-pub static VALID: [Kind; 13] = [
+pub static VALID: [Kind; 14] = [
     kind("mixed", "valid: fields of all kinds", |r| valid::run(r, &valid::MIXED)),
     kind("sharp", "valid: terms alone, no generators or radii", |r| valid::run(r, &valid::SHARP)),
     kind("terms", "valid: steps on many terms, folding by size", |r| valid::run(r, &valid::TERMS)),
@@ -36,6 +36,7 @@ pub static VALID: [Kind; 13] = [
     kind("reductions", "valid: reductions to few terms and generators", |r| valid::run(r, &valid::REDUCTIONS)),
     kind("dimensions", "valid: steps that change the dimension", |r| valid::run(r, &valid::DIMENSIONS)),
     kind("sums", "valid: many independent sums, with factors dropped in between", |r| valid::run(r, &valid::SUMS)),
+    kind("hulls", "valid: hulls, and steps and sums on what they leave", |r| valid::run(r, &valid::HULLS)),
     kind("wide", "valid: spans near 1,048,576", |r| valid::run(r, &valid::WIDE)),
     kind("ties", "valid: reductions among equal sizes, where weights and places decide", close::ties),
     kind("halves", "valid: steps among powers of two, where many numbers are exact halves", close::halves),

@@ -16,6 +16,7 @@ pub struct Profile {
     tied: usize,
     reductions: usize,
     checks: usize,
+    hulls: usize,
     dimension: usize,
     factors: usize,
     terms: usize,
@@ -34,6 +35,7 @@ pub const MIXED: Profile = Profile {
     tied: 2,
     reductions: 1,
     checks: 2,
+    hulls: 2,
     dimension: 4,
     factors: 4,
     terms: 8,
@@ -63,6 +65,7 @@ pub const GENERATORS: Profile = Profile { fields: 14, independent: 4, tied: 4, g
 pub const REDUCTIONS: Profile = Profile { reductions: 8, terms: 20, generators: 12, ..MIXED };
 pub const DIMENSIONS: Profile = Profile { steps: 12, dimension: MAX_DIMENSION, ..MIXED };
 pub const SUMS: Profile = Profile { fields: 60, independent: 16, reductions: 3, dimension: 2, ..MIXED };
+pub const HULLS: Profile = Profile { fields: 12, hulls: 12, span: 4_000, ..MIXED };
 pub const WIDE: Profile = Profile { span: SPAN_LIMIT, ..MIXED };
 pub const LONG: Profile = Profile { fields: MAX_FIELDS, dimension: 3, factors: 2, terms: 3, generators: 2, ..MIXED };
 
@@ -123,8 +126,15 @@ pub fn next_field(random: &mut Random, profile: &Profile, state: &State) -> Opti
     let set = state.set.as_ref()?;
     let n = set.dimension();
     let room = SPAN_LIMIT - (0..n).map(|i| set.span(i)).max()?;
-    let chances =
-        [profile.steps, profile.disturbances, profile.independent, profile.tied, profile.reductions, profile.checks];
+    let chances = [
+        profile.steps,
+        profile.disturbances,
+        profile.independent,
+        profile.tied,
+        profile.reductions,
+        profile.hulls,
+        profile.checks,
+    ];
     let mut chosen = random.below(chances.iter().sum());
     let mut kind = 0;
     while chosen >= chances[kind] {
@@ -149,6 +159,10 @@ pub fn next_field(random: &mut Random, profile: &Profile, state: &State) -> Opti
             let few = random.once_in(2);
             let mut limit = |most: usize| random.below(if few { 6 } else { most + 1 });
             Field::Reduce(Limits { terms: limit(MAX_TERMS), generators: limit(MAX_GENERATORS) })
+        }
+        5 => {
+            let factors = MAX_FACTORS.saturating_sub(set.identifiers.len() + 1);
+            Field::Hull(shaped_body(random, profile, n, factors, SPAN_LIMIT))
         }
         _ => Field::Check(region(random, set)),
     })
