@@ -43,7 +43,7 @@ pub enum Escape {
 pub struct Motion {
     random: Random,
     manner: Manner,
-    /// Of each identifier seen; those of independent sums under their identifiers in the set.
+    /// Of each identifier seen; those of independent sums and hulls under their identifiers in the set.
     values: BTreeMap<i128, Fraction>,
     /// The next new identifier, counted from the accepted bodies.
     mark: i128,
@@ -125,14 +125,11 @@ impl Motion {
             }
             Field::Hull(body) => {
                 self.pick_values(body);
-                let here = std::mem::take(&mut self.place);
+                let x = std::mem::take(&mut self.place);
                 self.add_body(body, &body.identifiers);
-                let blend = self.pick();
-                let one = Fraction::from(1);
-                let parts = [(&one + &blend, &here), (&one - &blend, &self.place)];
-                let coordinate = |i: usize| sum(parts.iter().map(|(share, x)| share * &x[i])).over_power(1);
-                self.place = (0..here.len()).map(coordinate).collect();
-                self.values.insert(self.mark, blend);
+                let v = self.pick();
+                self.place = blend(&v, &x, &self.place);
+                self.values.insert(self.mark, v);
                 self.mark += 1;
             }
             Field::Independent(body) => {
@@ -235,6 +232,13 @@ impl Motion {
         let within = offset.iter().zip(&set.radii).all(|(x, r)| x.abs() <= Fraction::from(*r));
         within || contains(&set.generators, &set.radii, &rest)
     }
+}
+
+/// ((1 + v)x + (1 - v)y)/2.
+fn blend(v: &Fraction, x: &[Fraction], y: &[Fraction]) -> Vec<Fraction> {
+    let one = Fraction::from(1);
+    let (of_x, of_y) = (&one + v, &one - v);
+    x.iter().zip(y).map(|(x, y)| (&(&of_x * x) + &(&of_y * y)).over_power(1)).collect()
 }
 
 fn is_in_region(place: &[Fraction], region: &[Halfspace]) -> bool {

@@ -3,9 +3,10 @@
 use crate::bounds::{bounding_box, is_safe};
 use crate::field::{count_bytes, counts_fit, decode, expected_length, is_known_tag, Field, HEADER};
 use crate::finish::{finish, Finished, Folds};
+use crate::hull::hull;
 use crate::set::Set;
 use crate::step::CONSTANT_LIMIT;
-use crate::sums::{add, hull, independent_sum, tied_sum};
+use crate::sums::{add, independent_sum, tied_sum};
 
 /// The first identifier that no file can name.
 pub const FIRST_MARK: i128 = 65_536;
@@ -66,7 +67,7 @@ pub struct Accepted {
     pub set: Set,
     pub mark: i128,
     /// For each generator of the set, its place in the list before finishing, in which a sum's body
-    /// stands after the set.
+    /// stands after the set; a hull has none.
     pub kept: Vec<usize>,
     pub folds: Folds,
 }

@@ -41,8 +41,12 @@ impl Set {
     /// The largest distance from 0 that coordinate `i` could have if every part pulled one way.
     pub fn span(&self, i: usize) -> i128 {
         let terms: i128 = self.terms.iter().map(|t| t.coefficients[i].abs()).sum();
-        let generators: i128 = self.generators.iter().map(|g| g[i].abs()).sum();
-        self.centre[i].abs() + terms + generators + self.radii[i]
+        self.centre[i].abs() + terms + self.independent_part(i)
+    }
+
+    /// How far generators and radius reach in coordinate `i`.
+    pub fn independent_part(&self, i: usize) -> i128 {
+        self.generators.iter().map(|g| g[i].abs()).sum::<i128>() + self.radii[i]
     }
 
     pub fn is_too_wide(&self) -> bool {

@@ -52,7 +52,7 @@ impl Step {
         let k = &set.centre;
         let mut inexact = 0;
         let mut rounded = |v: i128| {
-            inexact += i128::from(v % ROUND != 0);
+            inexact += i128::from(is_inexact(v));
             round(v)
         };
         let linear = |g: &[i128]| UNIT * dot(row, g) + quadratic(form, k, g) + quadratic(form, g, k);
@@ -86,6 +86,11 @@ pub fn round(v: i128) -> i128 {
     (v + ROUND / 2).div_euclid(ROUND)
 }
 
+/// Whether `round` changes v.
+pub fn is_inexact(v: i128) -> bool {
+    v % ROUND != 0
+}
+
 /// The exponents of the image's terms, linear ones first, then pairs row by row; no coefficients yet.
 fn image_terms(set: &Set) -> Vec<Term> {
     let without_coefficients = |exponents| Term { exponents, coefficients: Vec::new() };
@@ -105,7 +110,7 @@ fn rest(row: &[i128], form: &[Vec<i128>], set: &Set) -> i128 {
     let k = &set.centre;
     let w = &set.radii;
     let d: Vec<i128> = (0..n).map(|j| set.terms.iter().map(|t| t.coefficients[j].abs()).sum()).collect();
-    let r: Vec<i128> = (0..n).map(|j| set.generators.iter().map(|g| g[j].abs()).sum::<i128>() + w[j]).collect();
+    let r: Vec<i128> = (0..n).map(|j| set.independent_part(j)).collect();
     let mut sum = 0;
     for j in 0..n {
         let slope = UNIT * row[j] + (0..n).map(|l| (form[j][l] + form[l][j]) * k[l]).sum::<i128>();
@@ -126,6 +131,6 @@ fn quadratic(form: &[Vec<i128>], x: &[i128], y: &[i128]) -> i128 {
 }
 
 /// v / divisor rounded up, for v of 0 or more.
-fn ceiling(v: i128, divisor: i128) -> i128 {
+pub fn ceiling(v: i128, divisor: i128) -> i128 {
     (v + divisor - 1) / divisor
 }
