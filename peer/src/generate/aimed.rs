@@ -15,8 +15,8 @@ pub fn refused(random: &mut Random, number: u8) -> Vec<u8> {
     match number {
         1 if random.once_in(8) => Vec::new(),
         9 => {
-            let (start, sum) = too_many_factors(random);
-            [start.encode(), sum.encode()].concat()
+            let (start, field) = too_many_factors(random);
+            [start.encode(), field.encode()].concat()
         }
         10 => too_wide_result(random),
         12 => [unchanged(MAX_FIELDS), random_bytes(random, 1)].concat(),
@@ -58,9 +58,9 @@ pub fn several_causes(random: &mut Random) -> Vec<u8> {
     let mut field = match random.below(4) {
         0 => field_of_another_dimension(random, &state),
         1 => {
-            let (start, sum) = too_many_factors(random);
+            let (start, field) = too_many_factors(random);
             before = start.encode();
-            sum
+            field
         }
         _ => fitting_field(random, &state),
     };
@@ -132,25 +132,31 @@ fn field_of_another_dimension(random: &mut Random, state: &State) -> Field {
     }
 }
 
-/// A start set and a sum that has over 12 factors with it and, now and then, is too wide as well.
+/// A start set and a sum or hull that has over 12 factors with it and, now and then, is too wide as well.
 fn too_many_factors(random: &mut Random) -> (Field, Field) {
+    let kind = random.below(3);
+    // A hull brings a factor of its own.
+    let room = if kind == 2 { MAX_FACTORS - 1 } else { MAX_FACTORS };
     let first = 1 + random.below(MAX_FACTORS);
-    let second = MAX_FACTORS + 1 - first + random.below(first);
-    let mut body = plain_set(1, second, 1, 0);
-    let independent = random.once_in(2);
-    if !independent {
-        let shared = (first + second - MAX_FACTORS - 1).min(random.below(first));
+    let second = room + 1 - first + random.below(first);
+    let mut body = plain_set(1, second, second.min(1), 0);
+    if kind > 0 {
+        let shared = (first + second - room - 1).min(random.below(first));
         body.identifiers.iter_mut().for_each(|id| *id += (first - shared) as i128);
     }
     if random.once_in(2) {
         body.radii[0] = SPAN_LIMIT - body.span(0);
     }
-    let sum = if independent { Field::Independent(body) } else { Field::Tied(body) };
-    (Field::Start(plain_set(1, first, 1, 0)), sum)
+    let field = match kind {
+        0 => Field::Independent(body),
+        1 => Field::Tied(body),
+        _ => Field::Hull(body),
+    };
+    (Field::Start(plain_set(1, first, 1, 0)), field)
 }
 
-/// The current set reaches 1 and is moved or widened by the whole span, or a fold adds 1; or a
-/// disturbance after a valid run takes one more than the room that is left.
+/// The current set reaches 1 and is moved or widened by the whole span, or a fold or a hull's rounding adds to the
+/// whole span; or a disturbance after a valid run takes one more than the room that is left.
 fn too_wide_result(random: &mut Random) -> Vec<u8> {
     let fields = random.below(9);
     let Builder { bytes, state } = prefix(random, &MIXED, fields);
@@ -163,7 +169,7 @@ fn too_wide_result(random: &mut Random) -> Vec<u8> {
     let mut start = plain_set(1, 1, 1, 0);
     let mut wide = plain_set(1, 0, 0, 0);
     wide.radii[0] = SPAN_LIMIT;
-    let field = match random.below(5) {
+    let field = match random.below(7) {
         0 => {
             let mut step = zero_step(1, 1);
             step.constant[0] = *random.pick(&[CONSTANT_LIMIT, -CONSTANT_LIMIT]);
@@ -173,6 +179,12 @@ fn too_wide_result(random: &mut Random) -> Vec<u8> {
         1 => Field::Disturbance(vec![SPAN_LIMIT]),
         2 => Field::Independent(wide),
         3 => Field::Tied(wide),
+        4 => Field::Hull(wide),
+        5 => {
+            start.terms[0].coefficients[0] = SPAN_LIMIT - 1;
+            start.centre[0] = random.between(-1, 1);
+            Field::Hull(start.clone())
+        }
         _ => {
             start.terms[0] = Term { exponents: vec![2], coefficients: vec![-3] };
             start.centre[0] = 3 - SPAN_LIMIT;

@@ -1,4 +1,4 @@
-//! Runs where one unit decides: equal sizes, exact halves, odd folds.
+//! Runs where one unit decides: equal sizes, exact halves, odd folds, odd hulls.
 
 use std::collections::BTreeSet;
 
@@ -77,6 +77,32 @@ pub fn odd_folds(random: &mut Random) -> Vec<u8> {
         _ => vec![Field::Start(wide), fold, Field::Step(exchange(random, n))],
     };
     fields.iter().flat_map(Field::encode).collect()
+}
+
+/// Hulls of odd numbers, each half of which is rounded. Some runs begin with a set's hull with itself: of even numbers
+/// it leaves the new factor nothing to blend, though its number is used.
+pub fn odd_hulls(random: &mut Random) -> Vec<u8> {
+    let n = 1 + random.below(4);
+    let odd = |random: &mut Random| 2 * random.between(-40, 40) + 1;
+    let first = match random.below(4) {
+        0 => body(random, n, 3, 6, 3, |random| 2 * odd(random)),
+        _ => body(random, n, 3, 6, 3, odd),
+    };
+    let mut builder = start(Field::Start(first.clone()));
+    if random.once_in(2) {
+        builder.add(&Field::Hull(first));
+    }
+    for _ in 0..4 + random.below(6) {
+        let set = builder.set();
+        let field = match random.below(6) {
+            0 => Field::Check(region(random, &set)),
+            1 => Field::Independent(body(random, n, 1, 1, 1, odd)),
+            2 => Field::Reduce(Limits { terms: random.below(8), generators: 0 }),
+            _ => Field::Hull(body(random, n, 3, 6, 3, odd)),
+        };
+        builder.add(&field);
+    }
+    builder.bytes
 }
 
 fn raised(term: &Term, by: u32) -> Term {

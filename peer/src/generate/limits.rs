@@ -1,6 +1,7 @@
 //! Runs with one number or count at its limit, one below or one above. The seed says which, so that consecutive
 //! seeds have them all.
 
+use super::parts::region;
 use super::plain::{plain_set, unchanged, zero_step};
 use crate::bounds::{Halfspace, BOUND_LIMIT, MAX_HALFSPACES};
 use crate::field::Field;
@@ -13,8 +14,8 @@ use crate::set::{
 use crate::step::{CONSTANT_LIMIT, ENTRY_LIMIT, UNIT};
 
 /// How many numbers have a limit here, and how many counts.
-const NUMBERS: u64 = 19;
-const COUNTS: u64 = 18;
+const NUMBERS: u64 = 20;
+const COUNTS: u64 = 19;
 
 /// Numbers within 1 of a limit, first of one sign, then of the other.
 pub fn number(random: &mut Random, seed: u64) -> Vec<u8> {
@@ -26,7 +27,7 @@ pub fn number(random: &mut Random, seed: u64) -> Vec<u8> {
     let mut step = zero_step(2, 2);
     let fields = match seed / 3 % NUMBERS {
         0 => {
-            let (p, h) = (1 + random.below(MAX_FACTORS), 1 + random.below(MAX_TERMS));
+            let (p, h) = (1 + random.below(MAX_FACTORS - 1), 1 + random.below(MAX_TERMS));
             body = plain_set(2, p, h, 1);
             body.terms[h - 1].exponents[p - 1] = (i128::from(MAX_EXPONENT) + by) as u32;
             vec![start, given(random, body)]
@@ -89,6 +90,12 @@ pub fn number(random: &mut Random, seed: u64) -> Vec<u8> {
             widen_to(random, &mut body, SPAN_LIMIT / 2 + by);
             vec![Field::Start(current), given(random, body)]
         }
+        18 => {
+            // With itself: a coefficient of 1 is halved and rounded four times, which widens the set by 4.
+            let part = if random.once_in(2) { &mut body.radii } else { &mut body.centre };
+            part.fill(SPAN_LIMIT + by - 4 - 2);
+            vec![Field::Start(body.clone()), Field::Hull(body)]
+        }
         _ => {
             let mut current = plain_set(2, 1, 2, 1);
             widen_to(random, &mut current, 1_000);
@@ -127,11 +134,14 @@ pub fn count(random: &mut Random, seed: u64) -> Vec<u8> {
             let first = 1 + random.below(11);
             vec![set(1, first, 1, 0), Field::Independent(plain_set(1, near(MAX_FACTORS) - first, 1, 0))]
         }
-        _ => {
+        17 => {
             let (first, shared) = (1 + random.below(11), random.below(2));
-            let mut body = plain_set(1, near(MAX_FACTORS) - first + shared, 1, 0);
-            body.identifiers.iter_mut().for_each(|id| *id += (first - shared) as i128);
-            vec![set(1, first, 1, 0), Field::Tied(body)]
+            vec![set(1, first, 1, 0), Field::Tied(sharing(first, shared, near(MAX_FACTORS)))]
+        }
+        _ => {
+            // The factor that blends is one more.
+            let (first, shared) = (1 + random.below(9), random.below(2));
+            vec![set(1, first, 1, 0), Field::Hull(sharing(first, shared, near(MAX_FACTORS) - 1))]
         }
     };
     fields.iter().flat_map(Field::encode).collect()
@@ -147,12 +157,35 @@ pub fn fullest(random: &mut Random) -> Vec<u8> {
     [Field::Start(set), Field::Step(step), given(random, body)].iter().flat_map(Field::encode).collect()
 }
 
+/// Hulls of the fullest sets on different rows of exponents: of 161 terms 40 stay.
+pub fn full_hulls(random: &mut Random) -> Vec<u8> {
+    let (n, p) = (1 + random.below(MAX_DIMENSION), 2 + random.below(MAX_FACTORS - 3));
+    let mut set = |raised: u32| {
+        let mut set = plain_set(n, p, MAX_TERMS, MAX_GENERATORS);
+        for term in &mut set.terms {
+            term.exponents[p - 1] += raised;
+            term.coefficients.iter_mut().for_each(|g| *g = 2 * random.between(-900, 900) + 1);
+        }
+        set
+    };
+    let (first, second, third) = (set(0), set(22), set(23));
+    let check = Field::Check(region(random, &first));
+    [Field::Start(first), Field::Hull(second), check, Field::Hull(third)].iter().flat_map(Field::encode).collect()
+}
+
 fn given(random: &mut Random, body: Set) -> Field {
-    if random.once_in(2) {
-        Field::Tied(body)
-    } else {
-        Field::Independent(body)
+    match random.below(3) {
+        0 => Field::Tied(body),
+        1 => Field::Hull(body),
+        _ => Field::Independent(body),
     }
+}
+
+/// A set that shares so many of the identifiers 1 to `first` and has so many together with them.
+fn sharing(first: usize, shared: usize, together: usize) -> Set {
+    let mut set = plain_set(1, together - first + shared, 1, 0);
+    set.identifiers.iter_mut().for_each(|id| *id += (first - shared) as i128);
+    set
 }
 
 /// Widens each coordinate to this span in one of its parts, the way the part points already.

@@ -27,7 +27,7 @@ enum Make {
 }
 
 /// The kinds whose files a run accepts to the end.
-pub static VALID: [Kind; 14] = [
+pub static VALID: [Kind; 16] = [
     kind("mixed", "valid: fields of all kinds", |r| valid::run(r, &valid::MIXED)),
     kind("sharp", "valid: terms alone, no generators or radii", |r| valid::run(r, &valid::SHARP)),
     kind("terms", "valid: steps on many terms, folding by size", |r| valid::run(r, &valid::TERMS)),
@@ -37,6 +37,8 @@ pub static VALID: [Kind; 14] = [
     kind("dimensions", "valid: steps that change the dimension", |r| valid::run(r, &valid::DIMENSIONS)),
     kind("sums", "valid: many independent sums, with factors dropped in between", |r| valid::run(r, &valid::SUMS)),
     kind("hulls", "valid: hulls, and steps and sums on what they leave", |r| valid::run(r, &valid::HULLS)),
+    kind("odd-hulls", "valid: hulls of odd numbers, where every half is rounded", close::odd_hulls),
+    kind("full-hulls", "valid: hulls of the fullest sets, of whose 161 terms 40 stay", limits::full_hulls),
     kind("wide", "valid: spans near 1,048,576", |r| valid::run(r, &valid::WIDE)),
     kind("ties", "valid: reductions among equal sizes, where weights and places decide", close::ties),
     kind("halves", "valid: steps among powers of two, where many numbers are exact halves", close::halves),
@@ -54,7 +56,7 @@ pub static REFUSED: [Kind; 11] = [
     kind("refusal-6", "a number out of range", |r| aimed::refused(r, 6)),
     kind("refusal-7", "a broken ordering or zero rule", |r| aimed::refused(r, 7)),
     kind("refusal-8", "a given set that is too wide", |r| aimed::refused(r, 8)),
-    kind("refusal-9", "a sum with too many factors", |r| aimed::refused(r, 9)),
+    kind("refusal-9", "a sum or hull with too many factors", |r| aimed::refused(r, 9)),
     kind("refusal-10", "a result that is too wide", |r| aimed::refused(r, 10)),
     kind("refusal-12", "a field after the last that may follow", |r| aimed::refused(r, 12)),
 ];
