@@ -1,6 +1,6 @@
 //! Document 01's listing, its variants, its table and the cases marked 'run only'.
 
-use crate::common::{last_line, run_file};
+use crate::common::{factors, last_line, run_file};
 use peer::bounds::bounding_box;
 use peer::finish::{finish, fold_term, Limits, FULL};
 use peer::run::Run;
@@ -101,17 +101,6 @@ fn exponent_limit() {
     let start = |e: u32| last_line(&run_file(&format!("start 1\nidentifiers 1\nterm {e} : 1")));
     assert_eq!(start(63), "end 0");
     assert_eq!(start(64), "0 refused 6 0");
-}
-
-/// A set of one coordinate with `count` factors from `first` on, each in a term of its own.
-fn factors(kind: &str, first: usize, count: usize) -> String {
-    let identifiers: Vec<String> = (first..first + count).map(|id| id.to_string()).collect();
-    let mut plan = format!("{kind} 1\nidentifiers {}\n", identifiers.join(" "));
-    for k in (0..count).rev() {
-        let exponents: Vec<&str> = (0..count).map(|j| if j == k { "1" } else { "0" }).collect();
-        plan += &format!("term {} : 7\n", exponents.join(" "));
-    }
-    plan
 }
 
 #[test]

@@ -1,11 +1,12 @@
 //! Sampled motions stay where the run says; and where it says something wrong, that is caught.
 
-use crate::common::run_file;
+use crate::common::{accepted, run_file};
 use peer::field::Field;
 use peer::finish::Finished;
 use peer::follow::{follow, Escape, Manner, Motion};
 use peer::generate::VALID;
-use peer::run::{Accepted, Outcome, Run};
+use peer::run::{Accepted, Outcome, Run, FIRST_MARK};
+use peer::set::{Set, Term};
 use peer::sums::tied_sum;
 
 #[test]
@@ -107,6 +108,69 @@ fn an_independent_sum_done_as_a_tied_one_is_caught() {
         })
     });
     assert!(escapes.count() > 4);
+}
+
+/// From 10 and a body's 20 the one end leaves the motion where it is and the other takes it to the body's point.
+#[test]
+fn a_hull_takes_a_motion_as_far_as_it_picks() {
+    let place = |manner| {
+        let mut motion = Motion::new(manner, 1);
+        for field in accepted("start 1\ncentre 10\nhull 1\ncentre 20") {
+            motion.accept(&field);
+        }
+        motion.place[0].approximately()
+    };
+    assert_eq!((place(Manner::High), place(Manner::Low)), (10.0, 20.0));
+}
+
+/// The first escape from what `wrong` makes of the set that the hull of the plan leaves.
+fn wrong_hull(plan: &str, manner: Manner, wrong: impl Fn(&mut Set)) -> Option<(usize, Escape)> {
+    assert_eq!(first_escape(&run_file(plan), manner, |_| ()), None);
+    first_escape(&run_file(plan), manner, |accepted| {
+        if let Field::Hull(_) = accepted.field {
+            wrong(&mut accepted.set);
+        }
+    })
+}
+
+#[test]
+fn a_hull_blended_the_other_way_is_caught() {
+    let plan = "start 1\ncentre 10\nhull 1\ncentre 20";
+    let turned = wrong_hull(plan, Manner::Low, |set| set.terms[0].coefficients[0] *= -1);
+    assert_eq!(turned, Some((1, Escape::Set)));
+}
+
+/// The generator's number is the current set's own and can't stand for the body's radius.
+#[test]
+fn a_hull_with_the_smaller_independent_part_is_caught() {
+    let plan = "start 1\ngenerator 3\nhull 1\nradii 9";
+    assert_eq!(wrong_hull(plan, Manner::Low, |set| set.radii[0] = 3), Some((1, Escape::Set)));
+}
+
+/// a/2 is taken for a, twice: a motion at 1 is 1 away from 1 + 1.
+#[test]
+fn a_hull_whose_roundings_are_not_counted_is_caught() {
+    let plan = "start 1\nidentifiers 1\nterm 1 : 1\nhull 1";
+    assert_eq!(wrong_hull(plan, Manner::High, |set| set.radii[0] = 0), Some((1, Escape::Set)));
+}
+
+/// With the number of the hull's factor given again, the sum's own factor would take the hull's value.
+#[test]
+fn a_hulls_factor_given_again_is_caught() {
+    let plan = "start 1\nhull 1\ncentre 20\nindependent 1\nidentifiers 1\nterm 1 : 20";
+    let escapes = (1..9).filter(|seed| {
+        let mut motion = Motion::new(Manner::Any, *seed);
+        accepted(plan).into_iter().any(|mut field| {
+            if field.number == 2 {
+                let sum: i128 = field.set.terms.iter().map(|term| term.coefficients[0]).sum();
+                field.set.terms = vec![Term { exponents: vec![1], coefficients: vec![sum] }];
+                field.set.identifiers = vec![FIRST_MARK];
+            }
+            motion.accept(&field);
+            motion.escape(&field.set, &field.outcome, &field.field).is_some()
+        })
+    });
+    assert!(escapes.count() > 2);
 }
 
 #[test]

@@ -7,7 +7,8 @@ use peer::finish::size;
 use peer::generate::{kinds, Kind, REFUSED, VALID};
 use peer::random::Random;
 use peer::run::{Accepted, Outcome, Refusal, Run, FIRST_MARK, MAX_FIELDS};
-use peer::set::{MAX_EXPONENT, MAX_FACTORS, MAX_GENERATORS, MAX_TERMS, SPAN_LIMIT};
+use peer::set::{Set, MAX_EXPONENT, MAX_FACTORS, MAX_GENERATORS, MAX_TERMS, SPAN_LIMIT};
+use peer::show::show;
 use peer::step::{dot, ROUND, UNIT};
 
 const SEEDS: u64 = 40;
@@ -88,7 +89,7 @@ fn valid_kinds_reach_deep() {
             }
         }
     }
-    assert_eq!(tags, (1..=7).collect());
+    assert_eq!(tags, (1..=8).collect());
     assert_eq!(verdicts, [false, true].into());
     assert_eq!(dimensions, (1..=6).collect());
     assert!(by_exponent > 100 && by_size > 1_000 && generators > 100, "{by_exponent} {by_size} {generators}");
@@ -145,6 +146,56 @@ fn halves_have_numbers_at_exact_halves() {
     assert!(halves > 10, "{halves}");
 }
 
+/// The hulls of a kind's files: the set before, the body, and the field.
+fn hulls(name: &str) -> Vec<(Set, Set, Accepted)> {
+    let runs = (0..SEEDS).map(|seed| run(&kind(name).file(seed)).0);
+    let hull = |fields: &[Accepted]| match &fields[1].field {
+        Field::Hull(body) => Some((fields[0].set.clone(), body.clone(), fields[1].clone())),
+        _ => None,
+    };
+    runs.flat_map(|fields| fields.windows(2).filter_map(hull).collect::<Vec<_>>()).collect()
+}
+
+#[test]
+fn odd_hulls_round_every_half_and_some_leave_the_new_factor_nothing() {
+    let is_odd = |set: &Set| {
+        let terms = set.terms.iter().flat_map(|term| &term.coefficients);
+        !set.terms.is_empty() && terms.chain(&set.centre).all(|v| v % 2 != 0)
+    };
+    let hulls = hulls("odd-hulls");
+    assert!(hulls.iter().filter(|(before, body, _)| is_odd(before) && is_odd(body)).count() > 10);
+    let vanished = hulls.iter().filter(|(_, _, hull)| !hull.set.identifiers.contains(&(hull.mark - 1)));
+    assert!(vanished.count() > 2);
+}
+
+#[test]
+fn full_hulls_fold_all_but_40_of_161_terms() {
+    let hulls = hulls("full-hulls");
+    assert_eq!(hulls.len() as u64, 2 * SEEDS);
+    for (before, body, hull) in hulls {
+        assert_eq!([before.terms.len(), body.terms.len(), hull.set.terms.len()], [MAX_TERMS; 3]);
+        assert!(hull.folds.by_size > 100, "{}", hull.folds.by_size);
+    }
+}
+
+/// The number of factors of both sets, and of the refusal, if any.
+#[test]
+fn counts_have_hulls_on_both_sides_of_the_factors_limit() {
+    let ends: BTreeSet<(usize, Option<u8>)> = (54..57)
+        .map(|seed| {
+            let bytes = kind("counts").file(seed);
+            let (accepted, refusal) = run(&bytes);
+            let fields = show(&bytes);
+            assert!(fields.contains("\nhull 1 "), "{fields}");
+            let identifiers = fields.lines().filter_map(|line| line.trim().strip_prefix("identifiers "));
+            let union: BTreeSet<&str> = identifiers.flat_map(str::split_whitespace).collect();
+            assert_eq!(accepted.len(), if refusal.is_none() { 2 } else { 1 });
+            (union.len(), refusal.map(|refusal| refusal.cause as u8))
+        })
+        .collect();
+    assert_eq!(ends, [(10, None), (11, None), (12, Some(9))].into());
+}
+
 #[test]
 fn each_refusal_is_hit_by_its_kind() {
     for kind in &REFUSED {
@@ -172,15 +223,15 @@ fn refused_tags(name: &str) -> BTreeSet<u8> {
 
 #[test]
 fn refusals_come_in_fields_of_every_kind_that_can_have_them() {
-    assert_eq!(refused_tags("refusal-1"), (1..=7).collect());
-    assert_eq!(refused_tags("refusal-3"), (1..=7).collect());
-    assert_eq!(refused_tags("refusal-4"), (1..=7).collect());
-    assert_eq!(refused_tags("refusal-5"), [2, 3, 4, 5, 7].into());
-    assert_eq!(refused_tags("refusal-6"), [1, 2, 3, 4, 5, 7].into());
-    assert_eq!(refused_tags("refusal-7"), [1, 4, 5].into());
-    assert_eq!(refused_tags("refusal-8"), [1, 4, 5].into());
-    assert_eq!(refused_tags("refusal-9"), [4, 5].into());
-    assert_eq!(refused_tags("refusal-10"), [2, 3, 4, 5, 6].into());
+    assert_eq!(refused_tags("refusal-1"), (1..=8).collect());
+    assert_eq!(refused_tags("refusal-3"), (1..=8).collect());
+    assert_eq!(refused_tags("refusal-4"), (1..=8).collect());
+    assert_eq!(refused_tags("refusal-5"), [2, 3, 4, 5, 7, 8].into());
+    assert_eq!(refused_tags("refusal-6"), [1, 2, 3, 4, 5, 7, 8].into());
+    assert_eq!(refused_tags("refusal-7"), [1, 4, 5, 8].into());
+    assert_eq!(refused_tags("refusal-8"), [1, 4, 5, 8].into());
+    assert_eq!(refused_tags("refusal-9"), [4, 5, 8].into());
+    assert_eq!(refused_tags("refusal-10"), [2, 3, 4, 5, 6, 8].into());
 }
 
 /// How files of a kind end: with 0 for the end of input between fields, else the refusal's number.
@@ -192,8 +243,8 @@ fn endings(name: &str, seeds: u64) -> BTreeSet<u8> {
 #[test]
 fn other_kinds_end_in_every_way_they_can() {
     assert!(endings("order", 400).is_superset(&[1, 2, 3, 4, 5, 6, 7, 8, 9, 12].into()));
-    assert_eq!(endings("limits", 114), [0, 6, 8, 10].into());
-    assert_eq!(endings("counts", 54), [0, 4, 5, 7, 9, 12].into());
+    assert_eq!(endings("limits", 120), [0, 6, 8, 10].into());
+    assert_eq!(endings("counts", 57), [0, 4, 5, 7, 9, 12].into());
     assert!(endings("folds", 200).is_superset(&[0, 10].into()));
     assert!(endings("lengths", 200).is_superset(&[1, 2, 3, 4].into()));
     assert_eq!(endings("plain-4098", 2), [12].into());

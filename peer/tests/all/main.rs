@@ -7,6 +7,7 @@ mod document01;
 mod examples;
 mod following;
 mod generator;
+mod hulls;
 mod plans;
 mod readings;
 mod refusals;

@@ -18,9 +18,11 @@ fn any_bytes_come_back_from_their_plan() {
 
 #[test]
 fn a_fields_block() {
-    let bytes = run_file("check 2\nhalfspace 1 -1 : -7\nstep 1 from 2\nQ 1: 1 2/3 4 # tight\nreduce 41 0");
+    let bytes =
+        run_file("check 2\nhalfspace 1 -1 : -7\nstep 1 from 2\nQ 1: 1 2/3 4 # tight\nreduce 41 0\nhull 1\ncentre -3");
     let plan = "check 2  # field 0, byte 0\n  halfspace 1 -1 : -7\nstep 1 from 2  # field 1, byte 21\n  c 0\n  \
-                A 0 0\n  Q 1 : 1 2 / 3 4\nreduce 41 0  # field 2, byte 54\n";
+                A 0 0\n  Q 1 : 1 2 / 3 4\nreduce 41 0  # field 2, byte 54\nhull 1  # field 3, byte 59\n  \
+                identifiers\n  centre -3\n  radii 0\n";
     assert_eq!(show(&bytes), plan);
 }
 
@@ -69,6 +71,7 @@ fn bad_plans_get_a_message_with_the_line() {
         ("start 1\ncentre 2147483648", 2, "2147483648 is outside -2147483648..2147483647"),
         ("start 1\ncentre 1\n\ncentre 1", 4, "a second 'centre' in one field"),
         ("start 1\nc 1", 2, "'c' does not belong under 'start'"),
+        ("hull 1\nA 1", 2, "'A' does not belong under 'hull'"),
         ("start 1\nidentifiers 1.0", 2, "'1.0' has to be a whole number"),
         ("start 1\nidentifiers 1\nterm 1 1", 3, "'term' needs one ':'"),
         ("start 1\nidentifiers 1\nterm : 1", 3, "'term' needs 1 number here, not 0"),

@@ -1,12 +1,7 @@
 //! Agreed readings of open points that no other test shows; numbers as in READINGS.
 
-use crate::common::{last_line, run_file};
-use peer::run::{Accepted, Run};
+use crate::common::{accepted, last_line, run_file};
 use peer::text::motion;
-
-fn accepted(plan: &str) -> Vec<Accepted> {
-    Run::new(&run_file(plan)).map(|item| item.expect("accepted")).collect()
-}
 
 /// 6: ranges are looked at over the whole body before rules and span.
 #[test]

@@ -37,15 +37,19 @@ fn input_ends() {
 #[test]
 fn tags() {
     assert_eq!(last_line(&[2]), "0 refused 2 0");
+    assert_eq!(last_line(&[8]), "0 refused 2 0");
     assert_eq!(last_line(&[0, 0, 0]), "0 refused 2 0");
-    assert_eq!(bytes_after_start(&[8]), refused(2));
+    assert_eq!(bytes_after_start(&[8]), refused(1));
+    assert_eq!(bytes_after_start(&[9]), refused(2));
     assert_eq!(bytes_after_start(&[255, 255, 255]), refused(2), "an unknown tag with a huge length");
     assert_eq!(bytes_after_start(&[1]), refused(2), "a later start set");
 }
 
 #[test]
 fn lengths() {
-    for bytes in [&[3, 0, 0][..], &[2, 1, 0, 2], &[7, 1, 0, 2], &[6, 1, 0, 41], &[4, 3, 0, 99, 99, 99]] {
+    for bytes in
+        [&[3, 0, 0][..], &[2, 1, 0, 2], &[7, 1, 0, 2], &[6, 1, 0, 41], &[4, 3, 0, 99, 99, 99], &[8, 3, 0, 2, 0, 0]]
+    {
         assert_eq!(bytes_after_start(bytes), refused(3), "too short for its counts: {bytes:?}");
     }
     assert_eq!(bytes_after_start(&[6, 3, 0, 40, 24, 0]), refused(3));
@@ -58,7 +62,9 @@ fn lengths() {
 fn counts() {
     for body in [[0, 0, 0, 0], [7, 0, 0, 0], [2, 13, 0, 0], [2, 0, 41, 0], [2, 0, 0, 25]] {
         assert_eq!(last_line(&[&[1, 4, 0][..], &body].concat()), "0 refused 4 0");
-        assert_eq!(bytes_after_start(&[&[5, 4, 0][..], &body].concat()), refused(4));
+        for tag in [4, 5, 8] {
+            assert_eq!(bytes_after_start(&[&[tag, 4, 0][..], &body].concat()), refused(4));
+        }
     }
     for body in [[0, 2], [7, 2], [2, 0], [2, 7]] {
         assert_eq!(bytes_after_start(&[&[2, 2, 0][..], &body].concat()), refused(4));
@@ -78,6 +84,8 @@ fn dimensions() {
     assert_eq!(after_start("disturbance 1"), refused(5));
     assert_eq!(after_start("tied 3"), refused(5));
     assert_eq!(after_start("independent 1"), refused(5));
+    assert_eq!(after_start("hull 1"), refused(5));
+    assert_eq!(after_start("hull 2"), "end 1");
     assert_eq!(after_start("check 1\nhalfspace 1 : 0"), refused(5));
     assert_eq!(after_start("step 2 from 1"), refused(5));
     assert_eq!(after_start("step 1 from 2\ndisturbance 1"), "end 2", "a step may change the dimension");
@@ -105,8 +113,11 @@ fn ranges() {
         ("tied 2\nidentifiers 2\nterm 63 : 1 0", "tied 2\nidentifiers 2\nterm 64 : 1 0"),
         ("tied 2\nidentifiers 2\nterm 63 : 1 0", "tied 2\nidentifiers 2\nterm 255 : 1 0"),
     ] {
-        assert_eq!(after_start(good), "end 1", "{good}");
-        assert_eq!(after_start(bad), refused(6), "{bad}");
+        for of in ["tied", "hull"] {
+            let (good, bad) = (good.replace("tied", of), bad.replace("tied", of));
+            assert_eq!(after_start(&good), "end 1", "{good}");
+            assert_eq!(after_start(&bad), refused(6), "{bad}");
+        }
     }
 }
 
@@ -125,7 +136,9 @@ fn rules() {
         "term : 1 1",
         "identifiers 1",
     ] {
-        assert_eq!(after_start(&format!("tied 2\n{body}")), refused(7), "{body}");
+        for of in ["independent", "tied", "hull"] {
+            assert_eq!(after_start(&format!("{of} 2\n{body}")), refused(7), "{of} {body}");
+        }
         assert_eq!(last_line(&run_file(&format!("start 2\n{body}"))), "0 refused 7 0", "{body}");
     }
     assert_eq!(after_start("tied 2\n"), "end 1", "no factors, terms or generators");
@@ -137,6 +150,8 @@ fn spans() {
     let wide = "centre 0 -1000000\nidentifiers 1\nterm 1 : 0 -40000\ngenerator 0 -8575\nradii 0";
     assert_eq!(after_start(&format!("independent 2\n{wide} 2")), refused(8));
     assert_eq!(after_start(&format!("independent 2\n{wide} 1")), refused(10), "the sum is wider");
+    assert_eq!(after_start(&format!("hull 2\n{wide} 2")), refused(8));
+    assert_eq!(after_start(&format!("hull 2\n{wide} 1")), refused(10), "5 has inexact halves");
     assert_eq!(last_line(&run_file(&format!("start 2\n{wide} 1"))), "end 0");
     let extreme = "independent 2\ncentre -2147483648 2147483647\ngenerator -2147483648 0\nradii 2147483647 0";
     assert_eq!(after_start(extreme), refused(8));
@@ -156,37 +171,40 @@ fn fields_after_the_last_that_may_follow() {
 }
 
 /// Each field below has all causes from one place of the order on, so that mending the first cause
-/// uncovers the next.
+/// uncovers the next. Four more factors are not too many in a sum, three in a hull.
 #[test]
 fn order_of_refusals() {
     let eight = "start 1\nidentifiers 1 2 3 4 5 6 7 8\nterm 1 1 1 1 1 1 1 1 : 1048576\n";
     let place = run_file(eight).len();
-    let sum = |n: u8, identifier: u8, exponent: u8, coefficient: i32, factors: u8, cut: usize, more: usize| {
-        let mut body = vec![n, factors, 1, 0];
-        for k in 0..factors {
-            body.extend([if k == 0 { identifier } else { 20 + k }, 0, 0, 0]);
-        }
-        body.extend(vec![0; 4 * usize::from(n)]);
-        body.extend((0..factors).map(|k| if k == 0 { exponent } else { 1 }));
-        body.extend(coefficient.to_le_bytes().repeat(usize::from(n)));
-        body.extend(vec![0; 4 * usize::from(n) + more]);
-        let mut bytes = run_file(eight);
-        bytes.push(5);
-        bytes.extend((body.len() as u16).to_le_bytes());
-        bytes.extend(&body[..body.len() - cut]);
-        last_line(&bytes)
-    };
-    let refused = |number: u8| format!("1 refused {number} {place}");
-    assert_eq!(sum(7, 0, 64, 0, 13, 1, 1), refused(1));
-    assert_eq!(sum(7, 0, 64, 0, 12, 0, 1), refused(4));
-    assert_eq!(sum(2, 0, 64, 0, 12, 0, 1), refused(3));
-    assert_eq!(sum(2, 0, 64, 0, 12, 0, 0), refused(5));
-    assert_eq!(sum(1, 0, 64, 0, 12, 0, 0), refused(6));
-    assert_eq!(sum(1, 20, 64, 0, 12, 0, 0), refused(6));
-    assert_eq!(sum(1, 30, 1, 1_048_577, 12, 0, 0), refused(7), "identifiers fall");
-    assert_eq!(sum(1, 20, 1, 1_048_577, 12, 0, 0), refused(8));
-    assert_eq!(sum(1, 20, 1, 1_048_576, 12, 0, 0), refused(9));
-    assert_eq!(sum(1, 20, 1, 1_048_576, 4, 0, 0), refused(10));
-    assert_eq!(sum(1, 20, 1, 0, 4, 0, 0), refused(7), "a zero term");
-    assert_eq!(last_line(&[run_file(eight), vec![9]].concat()), refused(2));
+    for (tag, room) in [(5, 4), (8, 3)] {
+        let field = |n: u8, identifier: u8, exponent: u8, coefficient: i32, factors: u8, cut: usize, more: usize| {
+            let mut body = vec![n, factors, 1, 0];
+            for k in 0..factors {
+                body.extend([if k == 0 { identifier } else { 20 + k }, 0, 0, 0]);
+            }
+            body.extend(vec![0; 4 * usize::from(n)]);
+            body.extend((0..factors).map(|k| if k == 0 { exponent } else { 1 }));
+            body.extend(coefficient.to_le_bytes().repeat(usize::from(n)));
+            body.extend(vec![0; 4 * usize::from(n) + more]);
+            let mut bytes = run_file(eight);
+            bytes.push(tag);
+            bytes.extend((body.len() as u16).to_le_bytes());
+            bytes.extend(&body[..body.len() - cut]);
+            last_line(&bytes)
+        };
+        let refused = |number: u8| format!("1 refused {number} {place}");
+        assert_eq!(field(7, 0, 64, 0, 13, 1, 1), refused(1));
+        assert_eq!(field(7, 0, 64, 0, 12, 0, 1), refused(4));
+        assert_eq!(field(2, 0, 64, 0, 12, 0, 1), refused(3));
+        assert_eq!(field(2, 0, 64, 0, 12, 0, 0), refused(5));
+        assert_eq!(field(1, 0, 64, 0, 12, 0, 0), refused(6));
+        assert_eq!(field(1, 20, 64, 0, 12, 0, 0), refused(6));
+        assert_eq!(field(1, 30, 1, 1_048_577, 12, 0, 0), refused(7), "identifiers fall");
+        assert_eq!(field(1, 20, 1, 1_048_577, 12, 0, 0), refused(8));
+        assert_eq!(field(1, 20, 1, 1_048_576, 12, 0, 0), refused(9));
+        assert_eq!(field(1, 20, 1, 1_048_576, room + 1, 0, 0), refused(9));
+        assert_eq!(field(1, 20, 1, 1_048_576, room, 0, 0), refused(10));
+        assert_eq!(field(1, 20, 1, 0, room, 0, 0), refused(7), "a zero term");
+        assert_eq!(last_line(&[run_file(eight), vec![9]].concat()), refused(2));
+    }
 }
