@@ -16,7 +16,7 @@ pub struct Workload {
     make: fn() -> Vec<Field>,
 }
 
-pub static WORKLOADS: [Workload; 12] = [
+pub static WORKLOADS: [Workload; 13] = [
     workload(
         "oscillator",
         "a damped spring that stiffens, 2 coordinates, up to 12 terms; pushed and checked now and then",
@@ -38,6 +38,7 @@ pub static WORKLOADS: [Workload; 12] = [
         "4 coordinates: tied and independent sums, reductions and checks of 8 halfspaces; a step in eight",
         sums,
     ),
+    workload("hulls", "4 coordinates: half of the fields are hulls with 40 terms; of up to 161 terms 40 stay", hulls),
     workload("terms-2", "steps on 2 terms in 4 coordinates whose products all fold", || steps_on(2, 4)),
     workload("terms-5", "the same on 5 terms", || steps_on(5, 4)),
     workload("terms-10", "the same on 10 terms", || steps_on(10, 4)),
@@ -173,6 +174,28 @@ fn sums() -> Vec<Field> {
                 |_| Halfspace { normal: numbers(&mut random, n, UNIT), bound: -random.between(0, 4) * ROUND };
             Field::Check((0..MAX_HALFSPACES).map(halfspace).collect())
         }
+    })
+}
+
+/// Of eight fields four are hulls; the last two fold all factors and shrink what is left.
+fn hulls() -> Vec<Field> {
+    let mut random = Random::new(5);
+    let n = 4;
+    let body = |random: &mut Random| {
+        let rows = exponent_rows(random, 6, MAX_TERMS, 3);
+        set(random, n, &rows, 400, 12, 40)
+    };
+    let shrunk = |by: i128| {
+        let matrix = (0..n).map(|i| (0..n).map(|j| if i == j { by } else { 60 }).collect()).collect();
+        Field::Step(Step { constant: vec![0; n], matrix, forms: vec![vec![vec![0; n]; n]; n] })
+    };
+    let start = body(&mut random);
+    run(start, |place| match place % 8 {
+        2 => shrunk(3_000),
+        5 => Field::Check(vec![Halfspace { normal: numbers(&mut random, n, UNIT), bound: -ROUND }]),
+        6 => emptied(1, n),
+        7 => shrunk(800),
+        _ => Field::Hull(body(&mut random)),
     })
 }
 

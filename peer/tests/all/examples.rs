@@ -28,7 +28,7 @@ fn names() -> Vec<String> {
 #[test]
 fn run_files_are_their_plans_and_print_what_is_expected() {
     let names = names();
-    assert_eq!(names.len(), 6, "{names:?}");
+    assert_eq!(names.len(), 7, "{names:?}");
     for name in names {
         let run = bytes(&format!("{name}.run"));
         assert!(run_file(&text(&format!("{name}.plan"))) == run, "{name}");
@@ -68,4 +68,16 @@ fn absorber_is_safe_and_the_softer_one_is_not_shown_to_be() {
     let (steps, disturbances, verdicts) = tally("absorber-soft.run");
     assert_eq!((steps, disturbances), (512, 512));
     assert!(verdicts.len() == 96 && !verdicts[0] && verdicts[1..].iter().all(|safe| *safe));
+}
+
+/// After each hull the region between the two outcomes is the one that isn't safe any more.
+#[test]
+fn latch_is_safe_whether_it_holds_or_not() {
+    let run = bytes("latch.run");
+    let accepted: Vec<_> = Run::new(&run).map(|item| item.expect("accepted")).collect();
+    let tags: Vec<u8> = accepted.iter().map(|a| a.field.tag()).filter(|tag| [7, 8].contains(tag)).collect();
+    assert_eq!(tags, [7, 8, 7, 7, 7].repeat(4));
+    let (steps, disturbances, verdicts) = tally("latch.run");
+    assert_eq!((steps, disturbances), (52, 52));
+    assert_eq!(verdicts, [true, false, true, true].repeat(4));
 }

@@ -1,6 +1,7 @@
 //! The workloads: accepted to their end, and as demanding as they are said to be.
 
 use peer::run::{Accepted, Outcome, Run, MAX_FIELDS};
+use peer::set::MAX_TERMS;
 use peer::workload::{Workload, WORKLOADS};
 
 /// For each step, how many factors, terms and generators it is made on, and how many terms it folds.
@@ -47,6 +48,16 @@ fn sums_have_every_kind_of_field_and_both_verdicts() {
     assert_eq!([2, 4, 5, 6, 7].map(count), [512, 512, 1024, 512, 1536]);
     let safe = fields.iter().filter(|field| field.outcome == Outcome::Verdict { safe: true }).count();
     assert!((500..1_000).contains(&safe), "{safe}");
+}
+
+#[test]
+fn hulls_are_half_of_the_fields_and_most_have_161_terms() {
+    let fields = accepted("hulls");
+    assert_eq!(fields.len(), 1 + MAX_FIELDS);
+    let hulls: Vec<&[Accepted]> = fields.windows(2).filter(|pair| pair[1].field.tag() == 8).collect();
+    assert_eq!(hulls.len(), MAX_FIELDS / 2);
+    let full = |pair: &&&[Accepted]| pair[0].set.terms.len() == MAX_TERMS && pair[1].folds.by_size > 60;
+    assert!(4 * hulls.iter().filter(full).count() >= 3 * hulls.len());
 }
 
 /// The steps of a workload on sets of so many terms; some are on none.
