@@ -82,8 +82,8 @@ fn the_new_factor_vanishes_where_both_sets_are_equal() {
     assert_eq!(run[3].set.identifiers, [1, 65_537, 65_538]);
 }
 
-/// Every coefficient is 5 after the halving. Of the 80 terms those of a to a^20 stay; of a^21 to a^40 the ten even powers
-/// move the centre by 2 and add 3 each, the other thirty add 5.
+/// Every coefficient is 5 after the halving. Of the 80 terms those of a to a^20 stay; of a^21 to a^40 the ten even
+/// powers move the centre by 2 and add 3 each, the other thirty add 5.
 #[test]
 fn the_later_of_equal_terms_fold() {
     let terms: String = (1..=40).map(|e| format!("term {e} : 10\n")).collect();
