@@ -5,7 +5,7 @@ use mathlib.Core.Option.{Option, none, some}
 use mathlib.Core.Bool.{Bool, true, false, cond, _&&_}
 use Prim.Native.Nat.{ℕ, _+_}
 use lib.Dec.{eqb}
-use Rattle.model.specs.Field.{Kind, start, step, disturbance, independent, tied, reduction, check, unknown, refused, meaning}
+use Rattle.model.specs.Field.{Kind, start, step, disturbance, independent, tied, reduction, check, hull, unknown, refused, meaning}
 use Rattle.model.specs.Run as Model
 use Rattle.model.specs.Run.{tag, kindOf, current, refusal}
 use Rattle.zonotope.specs.declared.Examined.{Examined}
@@ -28,6 +28,7 @@ isStep independent = false
 isStep tied = false
 isStep reduction = false
 isStep check = false
+isStep hull = false
 isStep unknown = false
 
 -- whether a step was worked out: it was accepted, or refused for its result

@@ -11,7 +11,7 @@ use Rattle.rational.specs.Sum.{All, more}
 use Rattle.model.specs.Set.{Zonotope}
 use Rattle.model.specs.Operations.{safe}
 use Rattle.model.specs.Body.{factors, givenHalfspaces}
-use Rattle.model.specs.Field.{Kind, start, step, disturbance, independent, tied, reduction, check, unknown, refused, verdict}
+use Rattle.model.specs.Field.{Kind, start, independent, check, hull, refused, verdict}
 use Rattle.model.specs.Field.{meaning}
 use Rattle.model.specs.Run.{current, ofBody, noSet}
 use Rattle.model.proofs.Tests.{no-cause}
@@ -37,53 +37,39 @@ use Rattle.states.specs.Answer.{parts, noBox, answerOf}
 use Rattle.advance.specs.declared.Advanced.{Advanced}
 use Rattle.advance.specs.Running.{Running, current-is}
 use Rattle.advance.specs.Advanced.{isStep, Used, workedBy, kindAdvanced}
-use Rattle.advance.specs.Kinds.{acceptedAs, refusedAs, judgedAs, concludedBy, concluded, boxes, start-alone, not-last}
+use Rattle.advance.specs.Kinds.{acceptedAs, refusedAs, judgedAs, concludedBy, concluded, Plain, plain-start, Boxed, start-alone, not-last}
 use Rattle.advance.specs.Kinds.{box-advanced, box-limits, cause-is, changed-limits, changed-advanced}
 use Rattle.advance.specs.ConclusionLaws.{concluded-as}
-
--- the independent sum alone asks for the next identifier
-abbrev numbered : Kind → Bool
-numbered start = false
-numbered step = false
-numbered disturbance = false
-numbered independent = true
-numbered tied = false
-numbered reduction = false
-numbered check = false
-numbered unknown = false
-
-not-numbered : (k : Kind) → numbered k ≡ false → k ≡ independent → ⊥
-not-numbered k e q = true≢false (sym (ap numbered q) ∙ e)
 
 -- ---- a start set
 module _ (st : State) (run : Running st) (b : List ℕ) {r : Changed}
     (from : r ≡ answered (bodyRefusal start b 0 noSet) (pack noSet) (resultOf start b 0 noSet)) where
   pub start-limits : r .outcome ≡ Accepted → InLimits (r .set)
   start-limits =
-      changed-limits st run start b (λ e. absurd (true≢false e)) (not-numbered start refl) noSet
+      changed-limits st run start b (λ e. absurd (true≢false e)) plain-start noSet
       (start-alone b 0 noSet (current (viewed st))) (pack noSet) from
 
   pub start-advanced : (place bytes : ℕ) {a : Advanced} → a ≡ concluded st place bytes (st .next) r false
       → a ≡ kindAdvanced place st start b bytes
   start-advanced place bytes =
-      changed-advanced st run start b (λ e. absurd (true≢false e)) (not-numbered start refl) noSet
-      (start-alone b 0 noSet (current (viewed st))) (pack noSet) from place bytes refl refl
+      changed-advanced st run start b (λ e. absurd (true≢false e)) plain-start noSet
+      (start-alone b 0 noSet (current (viewed st))) (pack noSet) from place bytes refl
 
 -- ---- a kind that makes another set of the current one
-module _ (st : State) (run : Running st) (h : 0 < st .count) (k : Kind) (b : List ℕ) (plain : numbered k ≡ false) {r : Changed}
+module _ (st : State) (run : Running st) (h : 0 < st .count) {k : Kind} (plain : Plain k) (b : List ℕ) {r : Changed}
     (from : r ≡ answered (bodyRefusal k b 0 (view (st .set))) (st .set) (resultOf k b 0 (view (st .set)))) where
   same : (bodyRefusal k b 0 (view (st .set)) ≡ bodyRefusal k b 0 (current (viewed st)))
       × (resultOf k b 0 (view (st .set)) ≡ resultOf k b 0 (current (viewed st)))
   same = (ap (bodyRefusal k b 0) (sym (current-is st h)), ap (resultOf k b 0) (sym (current-is st h)))
 
   pub made-limits : r .outcome ≡ Accepted → InLimits (r .set)
-  made-limits = changed-limits st run k b (λ e. h) (not-numbered k plain) (view (st .set)) same (st .set) from
+  made-limits = changed-limits st run k b (λ e. h) plain (view (st .set)) same (st .set) from
 
-  pub made-advanced : (place bytes : ℕ) → boxes k ≡ true → {w : Bool} → w ≡ (isStep k && worked (bodyRefusal k b 0 (view (st .set))))
+  pub made-advanced : (place bytes : ℕ) {w : Bool} → w ≡ (isStep k && worked (bodyRefusal k b 0 (view (st .set))))
       → {a : Advanced} → a ≡ concluded st place bytes (st .next) r w → a ≡ kindAdvanced place st k b bytes
-  made-advanced place bytes e q =
-      changed-advanced st run k b (λ e. h) (not-numbered k plain) (view (st .set)) same (st .set) from place bytes e
-      (q ∙ ap (λ o. isStep k && worked o) (cause-is st run k b (λ e. h) (not-numbered k plain) (view (st .set)) same (st .set) from))
+  made-advanced place bytes q =
+      changed-advanced st run k b (λ e. h) plain (view (st .set)) same (st .set) from place bytes
+      (q ∙ ap (λ o. isStep k && worked o) (cause-is st run k b (λ e. h) plain (view (st .set)) same (st .set) from))
 
 -- ---- whether a step was worked out
 -- is told by what its call answers
@@ -111,8 +97,34 @@ step-used e h = record { untouched = λ q. h .untouched (sym e ∙ q); kept = h 
 pub not-used : {A : Type 0} (was : Bool) (d : A) (n : ℕ) (xs : List A) → Used was d n xs xs
 not-used was d n xs = record { untouched = λ q. refl; kept = record { place = λ x l. refl } }
 
--- ---- an independent sum
--- the next identifier leaves room for the body's factors
+-- ---- a kind that takes new identifiers
+module _ (st : State) (run : Running st) (h : 0 < st .count) (k : Kind) (b : List ℕ) {r : Changed}
+    (from : r ≡ answered (bodyRefusal k b (st .next) (view (st .set))) (st .set) (resultOf k b (st .next) (view (st .set)))) where
+  -- by the current set
+  pub fresh-answered : r ≡ answered (bodyRefusal k b (st .next) (current (viewed st))) (st .set) (resultOf k b (st .next) (current (viewed st)))
+  fresh-answered =
+      from ∙ ap (λ (u : Zonotope). answered (bodyRefusal k b (st .next) u) (st .set) (resultOf k b (st .next) u)) (sym (current-is st h))
+
+  pub fresh-limits : r .outcome ≡ Accepted → InLimits (r .set)
+  fresh-limits = box-limits st run k b (λ e. h) (st .set) fresh-answered
+
+  pub fresh-concluded : isStep k ≡ false → Boxed k b (st .next) (current (viewed st)) → (place bytes : ℕ)
+      → concluded st place bytes (meaning k b (st .next) (current (viewed st)) .next) r false ≡ kindAdvanced place st k b bytes
+  fresh-concluded e boxed place bytes =
+      ap (λ (y : Bool). concluded st place bytes (meaning k b (st .next) (current (viewed st)) .next) r
+      (y && worked (bodyRefusal k b (st .next) (current (viewed st))))) (sym e)
+      ∙ box-advanced st run k b (λ e. h) place bytes (st .set) boxed fresh-answered
+
+-- ---- a hull: one
+module _ (st : State) (run : Running st) (h : 0 < st .count) (b : List ℕ) {r : Changed}
+    (from : r ≡ answered (bodyRefusal hull b (st .next) (view (st .set))) (st .set) (resultOf hull b (st .next) (view (st .set)))) where
+  pub hull-advanced : (place bytes : ℕ) {a : Advanced} → a ≡ concluded st place bytes (st .next + 1) r false
+      → a ≡ kindAdvanced place st hull b bytes
+  unfolding meaning
+  hull-advanced place bytes p = p ∙ fresh-concluded st run h hull b from refl refl place bytes
+
+-- ---- an independent sum: one for each factor of the body's
+-- the next identifier leaves room for them
 pub sum-next : (st : State) → Running st → Next (st .next)
 sum-next st run = record { few = not-last st run }
 
@@ -122,18 +134,11 @@ module _ (st : State) (run : Running st) (h : 0 < st .count) (b : List ℕ) {r :
   abbrev cause : Option ℕ
   cause = bodyRefusal independent b (st .next) (current (viewed st))
 
-  sum-answered : r ≡ answered cause (st .set) (resultOf independent b (st .next) (current (viewed st)))
-  sum-answered =
-      from ∙ ap (λ (u : Zonotope). answered (bodyRefusal independent b (st .next) u) (st .set) (resultOf independent b (st .next) u))
-      (sym (current-is st h))
-
-  pub sum-limits : r .outcome ≡ Accepted → InLimits (r .set)
-  sum-limits = box-limits st run independent b (λ e. h) (st .set) sum-answered
-
   sum-concluded : (place bytes : ℕ)
       → concluded st place bytes (meaning independent b (st .next) (current (viewed st)) .next) r false
       ≡ kindAdvanced place st independent b bytes
-  sum-concluded place bytes = box-advanced st run independent b (λ e. h) place bytes (st .set) refl sum-answered
+  unfolding meaning
+  sum-concluded = fresh-concluded st run h independent b from refl refl
 
   pub sum-refused : (place bytes : ℕ) {n : ℕ} → r .outcome ≡ Refused n → {a : Advanced} → a ≡ refusedAs st place bytes n false
       → a ≡ kindAdvanced place st independent b bytes
@@ -150,7 +155,7 @@ module _ (st : State) (run : Running st) (h : 0 < st .count) (b : List ℕ) {r :
   -- an accepted body has its counts
   pub sum-long : r .outcome ≡ Accepted → 4 ≤ length b
   unfolding meaning
-  sum-long e = go cause refl sum-answered
+  sum-long e = go cause refl (fresh-answered st run h independent b from)
     where
       first : All (λ c. c .holds ≡ false) (ofBody (meaning independent b (st .next) (current (viewed st))) (length b)) → 4 ≤ length b
       first (more short rest) = ltb-false (length b) 4 short

@@ -9,7 +9,7 @@ use borrow.Author.Tests.{ltb-false, eqb-true, not-false}
 use lib.Dec.{ltb, eqb}
 use lib.ListN.{length, take, drop}
 use Rattle.whole.specs.Tests.{or-left, or-right}
-use Rattle.model.specs.Limits.{lastField}
+use Rattle.model.specs.Limits.{lastField, lastTag}
 use Rattle.model.specs.Bytes.{byte}
 use Rattle.model.specs.Field.{refused, skipped}
 use Rattle.model.specs.Run as Model
@@ -45,17 +45,17 @@ above n h e = omega arith
 between : {t : ℕ} (n : ℕ) → n ≤ t → t ≤ n → t ≡ n
 between n h k = omega arith
 
-pub last-tag : (t : ℕ) → (1 ≤ t) × (t ≤ 7) → (t ≡ 1 → ⊥) → (t ≡ 2 → ⊥) → (t ≡ 3 → ⊥) → (t ≡ 4 → ⊥) → (t ≡ 5 → ⊥) → (t ≡ 6 → ⊥)
-    → t ≡ 7
-last-tag t k one two three four five six =
-    between 7 (above 6 (above 5 (above 4 (above 3 (above 2 (above 1 (k .0) one) two) three) four) five) six) (k .1)
+pub last-is : (t : ℕ) → (1 ≤ t) × (t ≤ lastTag) → (t ≡ 1 → ⊥) → (t ≡ 2 → ⊥) → (t ≡ 3 → ⊥) → (t ≡ 4 → ⊥) → (t ≡ 5 → ⊥) → (t ≡ 6 → ⊥)
+    → (t ≡ 7 → ⊥) → t ≡ lastTag
+last-is t k one two three four five six seven =
+    between 8 (above 7 (above 6 (above 5 (above 4 (above 3 (above 2 (above 1 (k .0) one) two) three) four) five) six) seven) (k .1)
 
 -- a tag that may stand here
-tag-known : (count t : ℕ) → misplacedTag count t ≡ false → ((t ≡ 1 → ⊥) → 0 < count) × ((1 ≤ t) × (t ≤ 7))
+tag-known : (count t : ℕ) → misplacedTag count t ≡ false → ((t ≡ 1 → ⊥) → 0 < count) × ((1 ≤ t) × (t ≤ lastTag))
 tag-known zero t e = let q = eqb-true t 1 (not-false (eqb t 1) e) in ((λ h. absurd (h q)), (omega (arith, q), omega (arith, q)))
 tag-known (suc n) t e =
-    let low = ltb-false t 2 (or-left (ltb t 2) (ltb 7 t) e) in
-    ((λ h. omega arith), (omega (arith, low), ltb-false 7 t (or-right (ltb t 2) (ltb 7 t) e)))
+    let low = ltb-false t 2 (or-left (ltb t 2) (ltb lastTag t) e) in
+    ((λ h. omega arith), (omega (arith, low), ltb-false lastTag t (or-right (ltb t 2) (ltb lastTag t) e)))
 
 -- ---- the first field, where its header passed
 module _ (st : State) (rest : List ℕ) (header : firstOf (ofHeader (st .count) (firstField rest)) ≡ none) where

@@ -6,7 +6,7 @@ use mathlib.Core.Bool.{Bool, true, false, not, _||_}
 use Prim.Native.Nat.{ℕ, zero, suc, _≤_}
 use borrow.Author.Tests.{ltb-false}
 use lib.Dec.{ltb, eqb}
-use Rattle.model.specs.Limits.{lastField}
+use Rattle.model.specs.Limits.{lastField, lastTag}
 use Rattle.model.specs.Run.{Cause, _if_, firstOf, misplaced, cut}
 use Rattle.zonotope.specs.Valid.{passed}
 
@@ -17,7 +17,7 @@ ofHeader count f = (12 if ltb lastField count) ∷ (2 if misplaced count f) ∷ 
 -- whether a tag can't stand after this many fields
 abbrev pub misplacedTag : ℕ → ℕ → Bool
 misplacedTag zero t = not (eqb t 1)
-misplacedTag (suc n) t = ltb t 2 || ltb 7 t
+misplacedTag (suc n) t = ltb t 2 || ltb lastTag t
 
 -- a header that nothing refuses
 pub header-passed : (count : ℕ) (f : List ℕ) → firstOf (ofHeader count f) ≡ none

@@ -8,7 +8,7 @@ use native.Mathlib.Omega.{arith}
 use borrow.Author.Tests.{lt-ltb, le-ltb}
 use lib.Dec.{ltb, eqb}
 use lib.ListN.{length}
-use Rattle.model.specs.Limits.{lastField}
+use Rattle.model.specs.Limits.{lastField, lastTag}
 use Rattle.model.specs.Bytes.{byte}
 use Rattle.model.specs.Run.{firstOf, firstField, fieldLength, bodyLength, misplaced}
 use Rattle.zonotope.specs.declared.Examined.{Examined}
@@ -40,7 +40,7 @@ pub first-tag-is : (count t : ℕ) → count ≡ 0 → not (eqb t 1) ≡ misplac
 first-tag-is zero t e = refl
 first-tag-is (suc n) t e = absurd (omega (arith, e))
 
-pub later-tag-is : (count t : ℕ) → (count ≡ 0 → ⊥) → (ltb t 2 || ltb 7 t) ≡ misplacedTag count t
+pub later-tag-is : (count t : ℕ) → (count ≡ 0 → ⊥) → (ltb t 2 || ltb lastTag t) ≡ misplacedTag count t
 later-tag-is zero t h = absurd (h refl)
 later-tag-is (suc n) t h = refl
 

@@ -14,7 +14,7 @@ use Rattle.model.specs.Limits.{firstFresh, lastFresh}
 use Rattle.model.specs.Set.{Zonotope}
 use Rattle.model.specs.Operations.{box}
 use Rattle.model.specs.Field as Model
-use Rattle.model.specs.Field.{Kind, start, step, disturbance, independent, tied, reduction, check, unknown, inside, refused, skipped}
+use Rattle.model.specs.Field.{Kind, start, step, disturbance, tied, reduction, inside, refused, skipped}
 use Rattle.model.specs.Field.{meaning}
 use Rattle.model.specs.Run as Run
 use Rattle.model.specs.Run.{tag, body, kindOf, current, refusal, meant, after, outcome, firstOf, causes, ofBody, misplaced, cut}
@@ -90,42 +90,34 @@ concludedBy (Refused n) st place bytes next s worked = refusedAs st place bytes 
 abbrev pub concluded : State → ℕ → ℕ → ℕ → Changed → Bool → Advanced
 concluded st place bytes next r worked = concludedBy (r .outcome) st place bytes next (r .set) worked
 
--- ---- kinds
--- those that answer with a box
-abbrev pub boxes : Kind → Bool
-boxes start = true
-boxes step = true
-boxes disturbance = true
-boxes independent = true
-boxes tied = true
-boxes reduction = true
-boxes check = false
-boxes unknown = false
+-- ---- the kinds that answer with a box and neither ask for the next identifier nor change it
+pub data Plain : Kind → Type 0 where
+  plain-start : Plain start
+  plain-step : Plain step
+  plain-disturbance : Plain disturbance
+  plain-tied : Plain tied
+  plain-reduction : Plain reduction
 
-answers-box : (k : Kind) (b : List ℕ) (next : ℕ) (s : Zonotope) → boxes k ≡ true
-    → meaning k b next s .outcome ≡ inside (box (resultOf k b next s))
+-- a field that answers with the box of what it leaves
+abbrev pub Boxed : Kind → List ℕ → ℕ → Zonotope → Type 0
+Boxed k b next s = meaning k b next s .outcome ≡ inside (box (resultOf k b next s))
+
+plain-boxed : {k : Kind} → Plain k → (b : List ℕ) (next : ℕ) (s : Zonotope) → Boxed k b next s
 unfolding meaning
-answers-box start b next s e = refl
-answers-box step b next s e = refl
-answers-box disturbance b next s e = refl
-answers-box independent b next s e = refl
-answers-box tied b next s e = refl
-answers-box reduction b next s e = refl
-answers-box check b next s e = absurd (true≢false (sym e))
-answers-box unknown b next s e = absurd (true≢false (sym e))
+plain-boxed plain-start b next s = refl
+plain-boxed plain-step b next s = refl
+plain-boxed plain-disturbance b next s = refl
+plain-boxed plain-tied b next s = refl
+plain-boxed plain-reduction b next s = refl
 
--- the independent sum alone asks for the next identifier and changes it
-pub next-open : (k : Kind) (b : List ℕ) (m n : ℕ) (s : Zonotope) → (k ≡ independent → ⊥)
+next-open : {k : Kind} → Plain k → (b : List ℕ) (m n : ℕ) (s : Zonotope)
     → (bodyRefusal k b m s ≡ bodyRefusal k b n s) × (resultOf k b m s ≡ resultOf k b n s) × (meaning k b m s .next ≡ m)
 unfolding meaning
-next-open start b m n s h = (refl, refl, refl)
-next-open step b m n s h = (refl, refl, refl)
-next-open disturbance b m n s h = (refl, refl, refl)
-next-open independent b m n s h = absurd (h refl)
-next-open tied b m n s h = (refl, refl, refl)
-next-open reduction b m n s h = (refl, refl, refl)
-next-open check b m n s h = (refl, refl, refl)
-next-open unknown b m n s h = (refl, refl, refl)
+next-open plain-start b m n s = (refl, refl, refl)
+next-open plain-step b m n s = (refl, refl, refl)
+next-open plain-disturbance b m n s = (refl, refl, refl)
+next-open plain-tied b m n s = (refl, refl, refl)
+next-open plain-reduction b m n s = (refl, refl, refl)
 
 -- a start set asks for no set
 pub start-alone : (b : List ℕ) (n : ℕ) (s u : Zonotope)
@@ -184,7 +176,7 @@ module _ (st : State) (run : Running st) where
         (view-pack (m .result) (h .shaped) counts, countable (m .result) counts)
 
     -- a field that answers with a box, and the set that the call gave
-    pub box-advanced : (place bytes : ℕ) (s : PolyZonotope) {r : Changed} → boxes k ≡ true → r ≡ answered cause s (m .result)
+    pub box-advanced : (place bytes : ℕ) (s : PolyZonotope) {r : Changed} → Boxed k b (st .next) (current (viewed st)) → r ≡ answered cause s (m .result)
         → concluded st place bytes (m .next) r (isStep k && worked cause) ≡ kindAdvanced place st k b bytes
     unfolding kindAdvanced left answerOf
     box-advanced place bytes s {r} e p =
@@ -197,7 +189,7 @@ module _ (st : State) (run : Running st) where
               answer = parts (st .count) bytes (outcomeOf v) (boxOf v);
               state = record { set = pack (m .result); next = m .next; count = st .count + 1; over = false };
               worked = isStep k && true;
-            }) (ap (λ (u : Zonotope). inside (box u)) (result-means q .0) ∙ sym (answers-box k b (st .next) (current (viewed st)) e))
+            }) (ap (λ (u : Zonotope). inside (box u)) (result-means q .0) ∙ sym e)
         go (some n) q = refl
 
     -- the set of a call that accepts is in limits
@@ -209,13 +201,13 @@ module _ (st : State) (run : Running st) where
         go (some n) q p = let z : _≡_ {A = ℕ} 0 1 = cc (sym a ∙ ap (λ (x : Changed). x .outcome) p) in absurd (omega arith)
 
     -- the same of a call that knows neither the next identifier nor whether there was a set
-    module _ (other : k ≡ independent → ⊥) (u : Zonotope) (same : (bodyRefusal k b 0 u ≡ bodyRefusal k b 0 (current (viewed st)))
+    module _ (plain : Plain k) (u : Zonotope) (same : (bodyRefusal k b 0 u ≡ bodyRefusal k b 0 (current (viewed st)))
         × (resultOf k b 0 u ≡ resultOf k b 0 (current (viewed st)))) (s : PolyZonotope) {r : Changed}
         (from : r ≡ answered (bodyRefusal k b 0 u) s (resultOf k b 0 u)) where
       abbrev opened : (bodyRefusal k b (st .next) (current (viewed st)) ≡ bodyRefusal k b 0 (current (viewed st)))
           × (resultOf k b (st .next) (current (viewed st)) ≡ resultOf k b 0 (current (viewed st)))
           × (meaning k b (st .next) (current (viewed st)) .next ≡ st .next)
-      opened = next-open k b (st .next) 0 (current (viewed st)) other
+      opened = next-open plain b (st .next) 0 (current (viewed st))
 
       pub cause-is : bodyRefusal k b 0 u ≡ cause
       cause-is = same .0 ∙ sym (opened .0)
@@ -226,10 +218,10 @@ module _ (st : State) (run : Running st) where
       pub changed-limits : r .outcome ≡ Accepted → InLimits (r .set)
       changed-limits = box-limits s answered-is
 
-      pub changed-advanced : (place bytes : ℕ) → boxes k ≡ true → {w : Bool} → w ≡ (isStep k && worked cause) → {a : Advanced}
+      pub changed-advanced : (place bytes : ℕ) {w : Bool} → w ≡ (isStep k && worked cause) → {a : Advanced}
           → a ≡ concluded st place bytes (st .next) r w → a ≡ kindAdvanced place st k b bytes
-      changed-advanced place bytes e q p =
-          p ∙ ap₂ (λ n w. concluded st place bytes n r w) (sym (opened .2)) q ∙ box-advanced place bytes s e answered-is
+      changed-advanced place bytes q p =
+          p ∙ ap₂ (λ n w. concluded st place bytes n r w) (sym (opened .2)) q ∙ box-advanced place bytes s (plain-boxed plain b (st .next) (current (viewed st))) answered-is
 
 -- ---- a field whose header passed, in a run that isn't over
 module _ (st : State) (f : List ℕ) (on : st .over ≡ false) (header : firstOf (ofHeader (st .count) f) ≡ none) where

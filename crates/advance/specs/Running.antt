@@ -6,6 +6,7 @@ use Prim.Native.Nat.{ℕ, _<_, _≤_}
 use native.Mathlib.Omega.{arith}
 use borrow.Author.Tests.{ne-eqb}
 use lib.Dec.{eqb}
+use Rattle.model.specs.Limits.{lastTag}
 use Rattle.model.specs.Run as Model
 use Rattle.model.specs.Run.{current}
 use Rattle.model.specs.Library.{badNext}
@@ -23,7 +24,7 @@ pub record Ready (st : State) (t : ℕ) : Type 0 where
   pub running : Running st
   pub few : st .count ≤ 4096
   pub there : (t ≡ 1 → ⊥) → 0 < st .count
-  pub known : (1 ≤ t) × (t ≤ 7)
+  pub known : (1 ≤ t) × (t ≤ lastTag)
 
 -- the current set, where there is one
 pub current-is : (st : State) → 0 < st .count → current (viewed st) ≡ view (st .set)

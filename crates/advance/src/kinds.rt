@@ -3,7 +3,7 @@ ghost use mathlib.Core.Path.{_≡_};
 ghost use Prim.Native.Nat.{_≤_, _<_};
 ghost use lib.IntN.{pos};
 ghost use lib.ListN.{length};
-ghost use Rattle.model.specs.Field.{start, step, disturbance, independent, tied, reduction, check};
+ghost use Rattle.model.specs.Field.{start, step, disturbance, independent, tied, reduction, check, hull};
 ghost use Rattle.model.specs.Run.{kindOf};
 ghost use Rattle.stepping.specs.Work.{workNumbers, workExponents};
 ghost use Rattle.advance.specs.Running.{Running, Ready};
@@ -54,7 +54,10 @@ fn by_other_tag(st: State, place: usize, bytes: usize, t: u8, body: &[u8]) -> Ad
     if t == 6 {
         return reduced(st, place, bytes, body);
     }
-    checked(st, place, bytes, body)
+    if t == 7 {
+        return checked(st, place, bytes, body);
+    }
+    hulled(st, place, bytes, body)
 }
 
 // A start set.
@@ -153,4 +156,15 @@ fn checked(st: State, place: usize, bytes: usize, body: &[u8]) -> Advanced
     let s = st.set;
     let v = fields::checks::check(s, body);
     conclusion::judged(st, place, bytes, v)
+}
+
+// A hull: its blending factor takes the next identifier.
+fn hulled(st: State, place: usize, bytes: usize, body: &[u8]) -> Advanced
+    requires { ⌜ Running st × (0 < st .count) × (st .count ≤ 4096) ⌝ }
+    ensures { λ r. ⌜ r ≡ kindAdvanced place st hull (now (body .entry)) bytes ⌝ }
+{
+    let s = st.set;
+    let next = st.next;
+    let r = fields::sets::hull(s, next, body);
+    conclusion::changed(st, place, bytes, next + 1, r, false)
 }

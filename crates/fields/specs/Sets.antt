@@ -10,13 +10,12 @@ use lib.Dec.{ltb, eqb}
 use lib.ListN.{length}
 use Rattle.whole.specs.Tab.{tab, any}
 use Rattle.whole.specs.Tests.{or-left}
-use Rattle.model.specs.Limits.{fileIdentifiers, recordIdentifiers, standardWeights}
+use Rattle.model.specs.Limits.{fileIdentifiers, recordIdentifiers}
 use Rattle.model.specs.Set.{Zonotope}
 use Rattle.model.specs.Valid.{badCounts, badRange, badOrder, tooWide}
-use Rattle.model.specs.Operations.{tiedSum, independentSum, renumbered}
 use Rattle.model.specs.Body.{dimension, setLength, radiusWords, givenSet}
-use Rattle.model.specs.Field.{start, tied, independent, meaning, differs, negative, tooMany}
-use Rattle.model.specs.Run.{Cause, _if_, firstOf, noSet}
+use Rattle.model.specs.Field.{start, meaning, ofSet, differs, negative}
+use Rattle.model.specs.Run.{Cause, _if_, firstOf, ofBody, noSet}
 use Rattle.model.specs.Library.{Given, ofFirst, examine}
 use Rattle.zonotope.specs.declared.PolyZonotope.{PolyZonotope}
 use Rattle.zonotope.specs.declared.Examined.{Examined}
@@ -25,13 +24,13 @@ use Rattle.zonotope.specs.Valid.{Unrefused, passed}
 use Rattle.zonotope.specs.Record.{view, pack, given}
 use Rattle.zonotope.specs.Answer.{examined, orElse, first-append}
 use Rattle.answers.specs.declared.Changed.{Changed}
-use Rattle.answers.specs.Answer.{ofResult, answered, isRefused, none-refuses, answer-refused}
+use Rattle.answers.specs.Answer.{ofResult, answered, isRefused, none-refuses, answer-refused, answer-next}
 use Rattle.answers.specs.Order.{neither}
 use Rattle.answers.specs.Accepted.{equal}
 use Rattle.answers.specs.Accepted as records
-use Rattle.summing.specs.Summable.{ofFactors, Summable}
+use Rattle.summing.specs.Summable.{Summable}
 use Rattle.bodies.specs.Set.{setCountsOut, SetBody}
-use Rattle.bodies.specs.Given.{given-record, given-counts, file-range, pack-sized}
+use Rattle.bodies.specs.Given.{given-record, given-counts, given-view, file-range, pack-sized}
 use Rattle.fields.specs.Refusal.{bodyRefusal}
 use Rattle.fields.specs.Layout.{layout, laid-out}
 
@@ -125,22 +124,12 @@ module _ (b : List ℕ) where
       first-append (ofLayout b) ((5 if false) ∷ (ofContents b ++ ((9 if false) ∷ (10 if tooWide (givenSet b)) ∷ [])))
       ∙ ap (orElse (firstOf (ofLayout b))) (wide-once (outOfRange b) (badOrder (givenSet b)) (tooWide (givenSet b)))
 
-  module _ (s : Zonotope) where
-    -- a tied sum: the summand, the factors of both, the result
-    pub tied-order : bodyRefusal tied b 0 s
-        ≡ orElse (firstOf (ofSummand (s .dimension) b)) (orElse (ofFactors s (givenSet b)) (ofResult (tiedSum standardWeights s (givenSet b))))
-    unfolding meaning
-    tied-order =
-        first-append (ofSummand (s .dimension) b) _
-        ∙ ap (orElse (firstOf (ofSummand (s .dimension) b))) (first-append ((9 if tooMany s (givenSet b)) ∷ []) _)
-
-    pub independent-order : (next : ℕ) → bodyRefusal independent b next s
-        ≡ orElse (firstOf (ofSummand (s .dimension) b)) (orElse (ofFactors s (renumbered next (givenSet b)))
-        (ofResult (independentSum standardWeights next s (givenSet b))))
-    unfolding meaning
-    independent-order next =
-        first-append (ofSummand (s .dimension) b) _
-        ∙ ap (orElse (firstOf (ofSummand (s .dimension) b))) (first-append ((9 if tooMany s (renumbered next (givenSet b))) ∷ []) _)
+  -- a field that makes one set of the current one and the body's: the body's set, the factors of both, the result
+  pub made-order : (n : ℕ) (many : Bool) (m : Zonotope) (next : ℕ)
+      → firstOf (ofBody (ofSet b (differs (dimension b) n) many m next) (length b))
+      ≡ orElse (firstOf (ofSummand n b)) (orElse (firstOf ((9 if many) ∷ [])) (ofResult m))
+  made-order n many m next =
+      first-append (ofSummand n b) _ ∙ ap (orElse (firstOf (ofSummand n b))) (first-append ((9 if many) ∷ []) _)
 
 -- ---- answers, by what is asked first
 -- what a reading says of its causes, and the set that it gives
@@ -187,3 +176,45 @@ unfolding pack givenSet
 second-summable first b a e p =
     let s = summand-accepted (first .dimension) b e in
     rw p (record { first = a; second = s .1; same = s .2 })
+
+-- ---- one set of the current one and the body's: whether they have too many factors, and what is made of them, by the body's set
+module _ (first : PolyZonotope) (b : List ℕ) (many : Zonotope → Bool) (made : Zonotope → Zonotope) (next : ℕ) {g : Changed}
+    (from : g ≡ answered (firstOf (ofSummand (first .dimension) b)) (pack noSet) (givenSet b)) where
+  abbrev own : Option ℕ
+  own = firstOf (ofSummand (first .dimension) b)
+
+  abbrev later : Zonotope → Option ℕ
+  later u = orElse (firstOf ((9 if many u) ∷ [])) (ofResult (made u))
+
+  -- what refuses the field
+  abbrev refusal : Option ℕ
+  refusal = firstOf (ofBody (ofSet b (differs (dimension b) (first .dimension)) (many (givenSet b)) (made (givenSet b)) next) (length b))
+
+  outcome-is : g .outcome ≡ examined own
+  outcome-is = said own (pack noSet) (givenSet b) from
+
+  order : refusal ≡ orElse own (later (givenSet b))
+  order = made-order b (first .dimension) (many (givenSet b)) (made (givenSet b)) next
+
+  -- the body's set is refused
+  pub made-refused : isRefused (g .outcome) ≡ true
+      → _≡_ {A = Changed} (record { outcome = g .outcome; set = first }) (answered refusal first (made (givenSet b)))
+  made-refused = answer-refused own (later (givenSet b)) outcome-is order first (made (givenSet b))
+
+  -- or it can be used
+  module _ (yes : isRefused (g .outcome) ≡ false) where
+    abbrev unrefused : own ≡ none
+    unrefused = none-refuses own outcome-is yes
+
+    pub made-summable : records.AcceptedRecord first → Summable first (g .set)
+    made-summable a = second-summable first b a unrefused (read-set own (pack noSet) (givenSet b) from unrefused)
+
+    pub made-answered : {r : Changed} → r ≡ answered (later (view (g .set))) first (made (view (g .set)))
+        → r ≡ answered refusal first (made (givenSet b))
+    made-answered p =
+        answer-next own (later (givenSet b)) outcome-is order first (made (givenSet b)) yes
+        (p ∙ ap (λ (u : Zonotope). answered (later u) first (made u)) same)
+      where
+        same : view (g .set) ≡ givenSet b
+        same = ap view (read-set own (pack noSet) (givenSet b) from unrefused)
+            ∙ given-view b (summand-accepted (first .dimension) b unrefused .0 .counts)

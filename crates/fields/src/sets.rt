@@ -1,7 +1,7 @@
-// Fields whose body is a set: the start set and the sums.
+// Fields whose body is a set: the start set, the sums and the hull.
 ghost use mathlib.Core.Path.{_≡_};
 ghost use Rattle.model.specs.Body.{givenSet};
-ghost use Rattle.model.specs.Field.{start, tied, independent};
+ghost use Rattle.model.specs.Field.{start, tied, independent, hull};
 ghost use Rattle.model.specs.Run.{noSet, firstOf};
 ghost use Rattle.zonotope.specs.Record.{view, pack};
 ghost use Rattle.zonotope.specs.Answer.{examined};
@@ -63,7 +63,25 @@ pub fn independent(first: PolyZonotope, next: u32, body: &[u8]) -> Changed
     summing::sum::independent(first, second, next)
 }
 
-// The set in the body of a sum, for n coordinates: 3, 4, 3, 5, 6, 7, 8.
+// The hull with the body's set, blended by the factor `next`.
+pub fn hull(first: PolyZonotope, next: u32, body: &[u8]) -> Changed
+    requires { ⌜ AcceptedRecord first ⌝ }
+    ensures { λ r. ⌜ r ≡ answered (bodyRefusal hull (now (body .entry)) next (view first)) first
+        (resultOf hull (now (body .entry)) next (view first)) ⌝ }
+{
+    let g = summand(first.dimension, body);
+    let o = g.outcome;
+    if answers::is_refused(o) {
+        return Changed {
+            outcome: o,
+            set: first,
+        };
+    }
+    let second = g.set;
+    hulling::hulled(first, second, next)
+}
+
+// The set in the body of a sum or a hull, for n coordinates: 3, 4, 3, 5, 6, 7, 8.
 fn summand(n: usize, body: &[u8]) -> Changed
     ensures { λ r. ⌜ r ≡ answered (firstOf (ofSummand n (now (body .entry)))) (pack noSet) (givenSet (now (body .entry))) ⌝ }
 {

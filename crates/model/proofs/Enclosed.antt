@@ -21,26 +21,13 @@ use Rattle.model.specs.Motion.{Always, Enclosed}
 use Rattle.model.proofs.Held.{Held}
 use Rattle.model.proofs.Accepted.{Passed, accepted-passed}
 use Rattle.model.proofs.ByKind.{dimension-same}
+use Rattle.model.proofs.Answers.{answered-box}
 use Rattle.model.proofs.Sound.{Sound, begin-sound, after-sound, current-held}
 use Rattle.model.proofs.BoxPoint.{box-point}
 use Rattle.model.proofs.SafePoint.{safe-point}
 use Rattle.model.proofs.Moves.{Inside, Agree, old-value, values-range, keeps}
 
 -- ---- what is answered
--- a box that is answered is the result's
-answered-box : (k : Kind) (b : List ℕ) (next : ℕ) (s : Zonotope) (x : Box) → meaning k b next s .outcome ≡ inside x →
-    box (meaning k b next s .result) ≡ x
-unfolding meaning
-answered-box start b next s x e = cc
-answered-box tied b next s x e = cc
-answered-box independent b next s x e = cc
-answered-box hull b next s x e = cc
-answered-box step b next s x e = cc
-answered-box disturbance b next s x e = cc
-answered-box reduction b next s x e = cc
-answered-box check b next s x e = let z : _≡_ {A = ℕ} 0 1 = cc in absurd (omega arith)
-answered-box unknown b next s x e = let z : _≡_ {A = ℕ} 0 1 = cc in absurd (omega arith)
-
 -- where a verdict is safe, no point of the result is in the unsafe region
 answered-safe : (k : Kind) (b : List ℕ) (next : ℕ) (s : Zonotope) {α x : Vector} → Passed (meaning k b next s) → InRange α
     → Point (meaning k b next s .result) α x → meaning k b next s .outcome ≡ verdict true → ¬ (Unsafe (givenHalfspaces b) (dimension b) x)

@@ -8,13 +8,14 @@
 --     FoldOrder, Select, Level, FirstBySize   folding the smallest one at a time is keeping the first by size, then by place
 --     Lists, Tests, Shape                  rising lists; the tests of validity as facts, and back
 --     Selected .. Finished, FixedPoint     a finished set is valid but for its span; a valid set is a fixed point of finishing
---     StepShape, Union, SumShape, Held     every operation keeps what a run holds
---     Accepted, ByKind, Sound              what an accepted field passed and leaves; the invariant of a run
+--     StepShape .. HullShape, Held         every operation keeps what a run holds
+--     Accepted, ByKind, Sound, Answers     what an accepted field passed and leaves; the invariant of a run; what a kind answers
 --     Parts, Covers, Alike                 points by parts; when a set covers another, when both have the same points
 --     CollectCovers .. FinishCovers        every stage of finishing keeps every point
 --     Aligned, Values, SumPoints           sums and disturbances keep every point
 --     FoldsNothing, Shares, Exact          where nothing is folded, sums have exactly the true points (demand 2)
 --     Forms .. StepPoint                   the step keeps every point
+--     HullPoint                            the hull has every point between those of both sets
 --     Close                                a step from a set without independent parts is close to the true image (demand 2)
 --     Ends, BoxPoint, SafePoint            the box holds every point; a region that the check calls safe holds none
 --     Moves, Enclosed                      each kind of field keeps every motion; demand 3, entire
@@ -50,10 +51,12 @@ pub mod FixedPoint
 pub mod StepShape
 pub mod Union
 pub mod SumShape
+pub mod HullShape
 pub mod Held
 pub mod Accepted
 pub mod ByKind
 pub mod Sound
+pub mod Answers
 pub mod Choice
 pub mod Parts
 pub mod Covers
@@ -78,7 +81,6 @@ pub mod Remainder
 pub mod RawPoint
 pub mod Rounded
 pub mod StepPoint
-pub mod HullShape
 pub mod HullPoint
 pub mod Close
 pub mod Ends

@@ -56,9 +56,12 @@ abbrev pub maxBound : ℕ
 maxBound = 1099511627776
 
 -- ---- a run
--- the number of the last field that may follow the start set
+-- the number of the last field that may follow the start set, and the last tag that a field can have
 abbrev pub lastField : ℕ
 lastField = 4096
+
+abbrev pub lastTag : ℕ
+lastTag = 8
 
 -- ---- reduction
 -- what a coordinate weighs in a term's size, by its place: our models alternate position and speed

@@ -5,7 +5,7 @@ use mathlib.Core.Bool.{Bool, true, false, not, cond, _||_}
 use Prim.Native.Nat.{ℕ, zero, suc, _+_}
 use lib.Dec.{ltb, eqb}
 use lib.ListN.{length, take, drop}
-use Rattle.model.specs.Limits.{firstFresh, lastField}
+use Rattle.model.specs.Limits.{firstFresh, lastField, lastTag}
 use Rattle.model.specs.Set.{Zonotope}
 use Rattle.model.specs.Valid.{tooWide}
 use Rattle.model.specs.Bytes.{byte, number}
@@ -70,7 +70,7 @@ firstOf (c ∷ cs) = cond (c .holds) (some (c .number)) (firstOf cs)
 unfoldable pub misplaced : ℕ → List ℕ → Bool
 misplaced count [] = false
 misplaced zero (t ∷ f) = not (eqb t 1)
-misplaced (suc n) (t ∷ f) = ltb t 2 || ltb 8 t
+misplaced (suc n) (t ∷ f) = ltb t 2 || ltb lastTag t
 
 -- the input ends inside the field
 unfoldable pub cut : List ℕ → Bool

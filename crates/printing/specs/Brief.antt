@@ -1,5 +1,5 @@
 -- What is answered in a run has ends for at most six coordinates, so that its line is that of the definitions.
-use mathlib.Core.Path.{_≡_, refl, sym, _∙_}
+use mathlib.Core.Path.{_≡_, refl, sym, subst, _∙_}
 use mathlib.Core.List.{List}
 use mathlib.Core.Bool.{Bool, true, false, cond}
 use mathlib.Core.Option.{Option, none, some}
@@ -10,12 +10,12 @@ use Rattle.whole.specs.Tab.{length-tab}
 use Rattle.model.specs.Set.{Zonotope}
 use Rattle.model.specs.Operations.{box, low, high}
 use Rattle.model.specs.Field as Outcomes
-use Rattle.model.specs.Field.{Kind, start, step, disturbance, independent, tied, reduction, check, unknown}
-use Rattle.model.specs.Field.{inside, refused, skipped, meaning}
+use Rattle.model.specs.Field.{Kind, inside, refused, skipped, meaning}
 use Rattle.model.specs.Run as Model
 use Rattle.model.specs.Run.{tag, body, kindOf, current, meant, refusal, outcome, answer}
 use Rattle.model.specs.Text.{lineOf}
 use Rattle.model.proofs.Accepted.{no-refusal}
+use Rattle.model.proofs.Answers.{Answers, with-box, with-verdict, with-nothing, answers}
 use Rattle.model.proofs.Sound.{Sound, accepted-leaves}
 use Rattle.states.specs.Answer.{answerOf}
 use Rattle.printing.specs.Line.{answerLine, Brief, record-line}
@@ -28,15 +28,12 @@ box-brief s h =
 
 meaning-brief : (k : Kind) (b : List ℕ) (next : ℕ) (s : Zonotope) → meaning k b next s .result .dimension ≤ 6
     → Brief (meaning k b next s .outcome)
-unfolding meaning
-meaning-brief start b next s h = box-brief _ h
-meaning-brief step b next s h = box-brief _ h
-meaning-brief disturbance b next s h = box-brief _ h
-meaning-brief independent b next s h = box-brief _ h
-meaning-brief tied b next s h = box-brief _ h
-meaning-brief reduction b next s h = box-brief _ h
-meaning-brief check b next s h = record { few = omega arith; same = refl }
-meaning-brief unknown b next s h = record { few = omega arith; same = refl }
+meaning-brief k b next s h = go (answers k b next s)
+  where
+    go : Answers k (meaning k b next s) → Brief (meaning k b next s .outcome)
+    go (with-box e) = subst Brief (sym e) (box-brief _ h)
+    go (with-verdict v e) = subst Brief (sym e) (record { few = omega arith; same = refl })
+    go (with-nothing u e) = subst Brief (sym e) (record { few = omega arith; same = refl })
 
 module _ {u : Model.State} (s : Sound u) (f : List ℕ) where
   -- the result of a field that has no cause of refusal

@@ -8,20 +8,20 @@ use native.Mathlib.Omega.{arith}
 use borrow.Author.Tests.{ltb-false, eqb-true, not-false}
 use lib.Dec.{T, ltb, eqb}
 use Rattle.whole.specs.Tests.{or-left, or-right}
+use Rattle.model.specs.Limits.{lastTag}
 use Rattle.model.specs.Set.{Zonotope}
-use Rattle.model.specs.Operations.{safe}
-use Rattle.model.specs.Body.{givenHalfspaces}
 use Rattle.model.specs.Field as Model
-use Rattle.model.specs.Field.{Kind, start, step, disturbance, independent, tied, reduction, check, unknown, inside, verdict, refused, skipped, meaning}
+use Rattle.model.specs.Field.{Kind, unknown, inside, verdict, refused, skipped, meaning}
 use Rattle.model.specs.Run as Run
 use Rattle.model.specs.Run.{tag, body, kindOf, misplaced, cut, current, meant, refusal, accepted, outcome}
 use Rattle.model.proofs.Accepted.{no-refusal}
+use Rattle.model.proofs.Answers.{Answers, with-box, with-verdict, with-nothing, answers}
 use Rattle.states.specs.declared.Outcome.{Outcome}
 use Rattle.states.specs.declared.Outcome.the-variants.{Inside, Safe}
 use Rattle.states.specs.Answer.{outcomeOf, boxOf, accepts}
 
 -- ---- a field that is accepted has a kind
-known-tag : (t : ℕ) → 1 ≤ t → t ≤ 7 → kindOf t ≡ unknown → ⊥
+known-tag : (t : ℕ) → 1 ≤ t → t ≤ lastTag → kindOf t ≡ unknown → ⊥
 unfolding kindOf
 known-tag zero l h e = omega arith
 known-tag (suc zero) l h e = let z : _≡_ {A = ℕ} 0 1 = cc in omega arith
@@ -31,31 +31,30 @@ known-tag (suc (suc (suc (suc zero)))) l h e = let z : _≡_ {A = ℕ} 0 1 = cc 
 known-tag (suc (suc (suc (suc (suc zero))))) l h e = let z : _≡_ {A = ℕ} 0 1 = cc in omega arith
 known-tag (suc (suc (suc (suc (suc (suc zero)))))) l h e = let z : _≡_ {A = ℕ} 0 1 = cc in omega arith
 known-tag (suc (suc (suc (suc (suc (suc (suc zero))))))) l h e = let z : _≡_ {A = ℕ} 0 1 = cc in omega arith
-known-tag (suc (suc (suc (suc (suc (suc (suc (suc t)))))))) l h e = omega arith
+known-tag (suc (suc (suc (suc (suc (suc (suc (suc zero)))))))) l h e = let z : _≡_ {A = ℕ} 0 1 = cc in omega arith
+known-tag (suc (suc (suc (suc (suc (suc (suc (suc (suc t))))))))) l h e = omega arith
 
 pub known : (count : ℕ) (f : List ℕ) → misplaced count f ≡ false → cut f ≡ false → kindOf (tag f) ≡ unknown → ⊥
 unfolding misplaced cut
 known count [] p q e = true≢false q
 known zero (t ∷ f) p q e = let h = eqb-true t 1 (not-false _ p) in known-tag t (omega arith) (omega arith) e
 known (suc n) (t ∷ f) p q e =
-    let a = ltb-false t 2 (or-left (ltb t 2) (ltb 7 t) p) in let b = ltb-false 7 t (or-right (ltb t 2) (ltb 7 t) p) in
+    let a = ltb-false t 2 (or-left (ltb t 2) (ltb lastTag t) p) in
+    let b = ltb-false lastTag t (or-right (ltb t 2) (ltb lastTag t) p) in
     known-tag t (omega arith) b e
 
 -- ---- what is answered where no cause holds
 answered : (k : Kind) (b : List ℕ) (next : ℕ) (s : Zonotope) → (k ≡ unknown → ⊥) → accepts (outcomeOf (meaning k b next s .outcome)) ≡ true
-unfolding meaning
-answered start b next s h = refl
-answered step b next s h = refl
-answered disturbance b next s h = refl
-answered independent b next s h = refl
-answered tied b next s h = refl
-answered reduction b next s h = refl
-answered check b next s h = go (safe (givenHalfspaces b) s)
+answered k b next s h = go (answers k b next s)
   where
-    go : (v : Bool) → accepts (outcomeOf (verdict v)) ≡ true
-    go true = refl
-    go false = refl
-answered unknown b next s h = absurd (h refl)
+    judged : (v : Bool) → accepts (outcomeOf (verdict v)) ≡ true
+    judged true = refl
+    judged false = refl
+
+    go : Answers k (meaning k b next s) → accepts (outcomeOf (meaning k b next s .outcome)) ≡ true
+    go (with-box e) = ap (λ (o : Model.Outcome). accepts (outcomeOf o)) e
+    go (with-verdict v e) = ap (λ (o : Model.Outcome). accepts (outcomeOf o)) e ∙ judged v
+    go (with-nothing e s) = absurd (h e)
 
 -- An answer accepts its field where the definitions do.
 pub accepts-is : (place : ℕ) (u : Run.State) (f : List ℕ) → accepts (outcomeOf (outcome place u f)) ≡ accepted u f

@@ -1,19 +1,20 @@
 -- `kinds::by_other_tag` meets its contract.
 use mathlib.Core.Path.{_≡_}
 use Rattle.model.specs.Run.{kindOf}
-use Rattle.advance.specs.FieldLaws.{tag-advanced, later, last-tag}
+use Rattle.advance.specs.FieldLaws.{tag-advanced, later, last-is}
 use Rattle.advance.proofs.kinds.by_other_tag.Statement.{statement}
 use Rattle.advance.proofs.kinds.by_other_tag.Tie as tie
 
 -- where no test but the last is left
-abbrev start : tie.Else5 → tie.Start
-start e = e .before .before .before .before .before .before
+abbrev start : tie.Else6 → tie.Start
+start e = e .before .before .before .before .before .before .before
 
-is-check : (e : tie.Else5) → start e .args .t ≡ 7
-is-check e =
+is-hull : (e : tie.Else6) → start e .args .t ≡ 8
+is-hull e =
     let s = start e in
-    last-tag (s .args .t) (s .pre .0 .known) (e .before .before .before .before .if1 .left) (s .pre .1)
-    (e .before .before .before .if2 .left) (e .before .before .if3 .left) (e .before .if4 .left) (e .if5 .left)
+    last-is (s .args .t) (s .pre .0 .known) (e .before .before .before .before .before .if1 .left) (s .pre .1)
+    (e .before .before .before .before .if2 .left) (e .before .before .before .if3 .left) (e .before .before .if4 .left)
+    (e .before .if5 .left) (e .if6 .left)
 
 started-requires : tie.Need-started-requires
 started-requires c κs = let s = c .before .before in (s .pre .0 .running, s .pre .0 .few)
@@ -61,13 +62,23 @@ returns-5 c =
     tag-advanced 6 (a .place) (a .st) (a .body .now) (a .bytes) (c .before .if5 .taken) (c .reduced .ensures)
 
 checked-requires : tie.Need-checked-requires
-checked-requires c κs = later (start c .pre .0) (c .before .before .before .before .if1 .left)
+checked-requires c κs =
+    later (c .before .before .before .before .before .before .before .pre .0) (c .before .before .before .before .before .if1 .left)
 
 returns-6 : tie.Need-returns-6
 unfolding kindOf
 returns-6 c =
+    let a = c .before .before .before .before .before .before .before .before .args in
+    tag-advanced 7 (a .place) (a .st) (a .body .now) (a .bytes) (c .before .if6 .taken) (c .checked .ensures)
+
+hulled-requires : tie.Need-hulled-requires
+hulled-requires c κs = later (start c .pre .0) (c .before .before .before .before .before .if1 .left)
+
+returns-7 : tie.Need-returns-7
+unfolding kindOf
+returns-7 c =
     let a = start (c .before) .args in
-    tag-advanced 7 (a .place) (a .st) (a .body .now) (a .bytes) (is-check (c .before)) (c .checked .ensures)
+    tag-advanced 8 (a .place) (a .st) (a .body .now) (a .bytes) (is-hull (c .before)) (c .hulled .ensures)
 
 pub by-other-tag-spec : {M : Type 1} → statement M
 by-other-tag-spec =
@@ -84,4 +95,6 @@ by-other-tag-spec =
     reduced-requires
     returns-5
     checked-requires
-    returns-6)
+    returns-6
+    hulled-requires
+    returns-7)

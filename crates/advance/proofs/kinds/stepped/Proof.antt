@@ -4,6 +4,7 @@ use Rattle.model.specs.Field.{step}
 use Rattle.zonotope.specs.Record.{view}
 use Rattle.stepping.specs.Work.{worked}
 use Rattle.fields.specs.Refusal.{bodyRefusal, resultOf}
+use Rattle.advance.specs.Kinds.{plain-step}
 use Rattle.advance.specs.CallLaws.{made-limits, made-advanced, worked-told, worked-said, step-used}
 use borrow.Author.Needs.{needs}
 use Rattle.advance.proofs.kinds.stepped.Statement.{statement}
@@ -32,7 +33,7 @@ was-worked-requires c κs = search needs
 changed-requires : tie.Need-changed-requires
 changed-requires c κs =
     let t = called c in let s = start t in
-    (made-limits (s .args .st) (s .pre .0) (s .pre .1) step (s .args .body .now) refl (t .step .ensures .0), s .pre .2)
+    (made-limits (s .args .st) (s .pre .0) (s .pre .1) plain-step (s .args .body .now) (t .step .ensures .0), s .pre .2)
 
 same-length : tie.Need-same-length
 same-length c = search needs
@@ -45,7 +46,7 @@ returns c =
     let t = called (c .before) in let s = start t in let a = s .args in
     let yes = worked-said (a .st) (a .place) (a .bytes) (a .st .next) (t .step .result) (c .before .was-worked .result)
     (c .changed .ensures) ∙ told (c .before) in (
-      made-advanced (a .st) (s .pre .0) (s .pre .1) step (a .body .now) refl (t .step .ensures .0) (a .place) (a .bytes) refl
+      made-advanced (a .st) (s .pre .0) (s .pre .1) plain-step (a .body .now) (t .step .ensures .0) (a .place) (a .bytes)
           (told (c .before)) (c .changed .ensures),
       (step-used yes (t .step .ensures .1 .0), step-used yes (t .step .ensures .1 .1)),
     )

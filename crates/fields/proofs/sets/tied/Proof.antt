@@ -1,18 +1,10 @@
 -- `sets::tied` meets its contract.
-use mathlib.Core.Path.{_≡_, refl, sym, _∙_, ap}
+use mathlib.Core.Path.{sym, _∙_}
 use Rattle.model.specs.Limits.{standardWeights}
-use Rattle.model.specs.Set.{Zonotope}
-use Rattle.model.specs.Body.{givenSet}
 use Rattle.model.specs.Operations.{tiedSum}
-use Rattle.model.specs.Field.{meaning}
-use Rattle.model.specs.Run.{noSet, firstOf}
-use Rattle.zonotope.specs.declared.PolyZonotope.{PolyZonotope}
-use Rattle.zonotope.specs.Record.{view, pack}
-use Rattle.zonotope.specs.Answer.{orElse}
-use Rattle.answers.specs.Answer.{answered, ofResult, none-refuses, answer-refused, answer-next}
-use Rattle.summing.specs.Summable.{ofFactors, Summable}
-use Rattle.bodies.specs.Given.{given-view}
-use Rattle.fields.specs.Sets.{ofSummand, tied-order, said, read-set, summand-accepted, second-summable}
+use Rattle.model.specs.Field.{meaning, tooMany}
+use Rattle.zonotope.specs.Record.{view}
+use Rattle.fields.specs.Sets.{made-refused, made-summable, made-answered}
 use borrow.Author.Needs.{needs}
 use Rattle.fields.proofs.sets.tied.Statement.{statement}
 use Rattle.fields.proofs.sets.tied.Tie as tie
@@ -26,35 +18,21 @@ is-refused-requires c κs = search needs
 returns : tie.Need-returns
 unfolding meaning view
 returns c =
-    let r = c .before in let s = r .before in let a = s .before .before .args in
-    let n = a .first .dimension in let b = a .body .now in let u = view (a .first) in
-    answer-refused (firstOf (ofSummand n b)) (orElse (ofFactors u (givenSet b)) (ofResult (tiedSum standardWeights u (givenSet b))))
-    (said (firstOf (ofSummand n b)) (pack noSet) (givenSet b) (s .summand .ensures))
-    (tied-order b u) (a .first) (tiedSum standardWeights u (givenSet b)) (sym (r .is-refused .ensures) ∙ c .if1 .taken)
+    let s = c .before .before in let a = s .before .before .args in let b = a .body .now in let u = view (a .first) in
+    made-refused (a .first) b (tooMany u) (tiedSum standardWeights u) 0 (s .summand .ensures) (sym (c .before .is-refused .ensures) ∙ c .if1 .taken)
 
 tied-requires : tie.Need-tied-requires
 tied-requires c κs =
-    let i = c .before in let r = i .before in let s = r .before in let a = s .before .before .args in
-    let n = a .first .dimension in let b = a .body .now in
-    let none = none-refuses (firstOf (ofSummand n b)) (said (firstOf (ofSummand n b)) (pack noSet) (givenSet b) (s .summand .ensures))
-    (sym (r .is-refused .ensures) ∙ i .if1 .left) in
-    let sum = second-summable (a .first) b (s .before .before .pre) none
-    (read-set (firstOf (ofSummand n b)) (pack noSet) (givenSet b) (s .summand .ensures) none) in
-    sum
+    let i = c .before in let s = i .before .before in let a = s .before .before .args in let b = a .body .now in let u = view (a .first) in
+    made-summable (a .first) b (tooMany u) (tiedSum standardWeights u) 0 (s .summand .ensures) (sym (i .before .is-refused .ensures) ∙ i .if1 .left) (s .before .before .pre)
 
 returns-2 : tie.Need-returns-2
 unfolding meaning view
 returns-2 c =
-    let i = c .before .before in let r = i .before in let s = r .before in let a = s .before .before .args in
-    let n = a .first .dimension in let b = a .body .now in let u = view (a .first) in
-    let from = said (firstOf (ofSummand n b)) (pack noSet) (givenSet b) (s .summand .ensures) in
-    let yes = sym (r .is-refused .ensures) ∙ i .if1 .left in
-    let none = none-refuses (firstOf (ofSummand n b)) from yes in
-    let same = ap view (read-set (firstOf (ofSummand n b)) (pack noSet) (givenSet b) (s .summand .ensures) none)
-    ∙ given-view b (summand-accepted n b none .0 .counts) in
-    answer-next (firstOf (ofSummand n b)) (orElse (ofFactors u (givenSet b)) (ofResult (tiedSum standardWeights u (givenSet b))))
-    from (tied-order b u) (a .first) (tiedSum standardWeights u (givenSet b)) yes
-    (c .tied .ensures ∙ ap (λ (v : Zonotope). answered (orElse (ofFactors u (v)) (ofResult (tiedSum standardWeights u v))) (a .first) (tiedSum standardWeights u v)) same)
+    let i = c .before .before in let s = i .before .before in let a = s .before .before .args in let b = a .body .now in
+    let u = view (a .first) in
+    made-answered (a .first) b (tooMany u) (tiedSum standardWeights u) 0 (s .summand .ensures) (sym (i .before .is-refused .ensures) ∙ i .if1 .left)
+    (c .tied .ensures)
 
 pub tied-spec : {M : Type 1} → statement M
 tied-spec =
