@@ -1,6 +1,6 @@
 -- What a field answers and leaves, by what its kind makes of the body.
 use mathlib.Core.Path.{_≡_, refl, sym, _∙_, ap, ap₂, subst}
-use mathlib.Core.List.{List, [], _∷_}
+use mathlib.Core.List.{List}
 use mathlib.Core.Option.{Option, none, some}
 use mathlib.Core.Bool.{Bool, true, false, cond, not, _&&_, _||_, true≢false}
 use Prim.Native.Nat.{ℕ, zero, suc, _+_, _<_, _≤_}
@@ -46,7 +46,7 @@ use Rattle.states.specs.Taken.{taken}
 use Rattle.advance.specs.declared.Advanced.{Advanced}
 use Rattle.advance.specs.Header.{ofHeader, header-passed}
 use Rattle.advance.specs.Running.{Running, current-is}
-use Rattle.advance.specs.Advanced.{isStep, stepWorked, advanced, byCause, kindAdvanced}
+use Rattle.advance.specs.Advanced.{isStep, advanced, byCause, kindAdvanced}
 
 -- ---- an accepted field and a refused one
 -- a field that leaves this set answers with its box

@@ -2,21 +2,20 @@
 use mathlib.Core.Path.{_≡_, refl, sym, _∙_, ap, subst}
 use mathlib.Core.List.{List, [], _∷_, _++_}
 use mathlib.Core.Option.{Option, none, some}
-use mathlib.Core.Bool.{Bool, true, false, not, cond, _||_, or-true, or-false, or-assoc}
+use mathlib.Core.Bool.{Bool, true, false, _||_, or-true, or-false, or-assoc}
 use Prim.Native.Nat.{ℕ, _≤_}
-use native.Mathlib.Omega.{arith}
 use borrow.Author.Tests.{eq-eqb, ne-eqb}
-use lib.Dec.{ltb, eqb}
+use lib.Dec.{ltb}
 use lib.ListN.{length}
-use Rattle.whole.specs.Tab.{tab, any}
+use Rattle.whole.specs.Tab.{any}
 use Rattle.whole.specs.Tests.{or-left}
 use Rattle.model.specs.Limits.{fileIdentifiers, recordIdentifiers}
 use Rattle.model.specs.Set.{Zonotope}
-use Rattle.model.specs.Valid.{badCounts, badRange, badOrder, tooWide}
+use Rattle.model.specs.Valid.{badRange, badOrder, tooWide}
 use Rattle.model.specs.Body.{dimension, setLength, radiusWords, givenSet}
 use Rattle.model.specs.Field.{start, meaning, ofSet, differs, negative}
 use Rattle.model.specs.Run.{Cause, _if_, firstOf, ofBody, noSet}
-use Rattle.model.specs.Library.{Given, ofFirst, examine}
+use Rattle.model.specs.Library.{Given, examine}
 use Rattle.zonotope.specs.declared.PolyZonotope.{PolyZonotope}
 use Rattle.zonotope.specs.declared.Examined.{Examined}
 use Rattle.zonotope.specs.declared.Examined.the-variants.{Accepted, Refused}

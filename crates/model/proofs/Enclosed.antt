@@ -10,9 +10,9 @@ use native.Mathlib.Omega.{arith}
 use lib.Dec.{T}
 use lib.ListN.{getD}
 use Rattle.model.specs.Set.{Zonotope}
-use Rattle.model.specs.Operations.{Box, box, safe}
+use Rattle.model.specs.Operations.{safe}
 use Rattle.model.specs.Body.{dimension, givenHalfspaces}
-use Rattle.model.specs.Field.{Kind, start, step, disturbance, independent, tied, reduction, check, hull, unknown, inside, verdict}
+use Rattle.model.specs.Field.{Kind, start, step, disturbance, independent, tied, reduction, check, hull, unknown, verdict}
 use Rattle.model.specs.Field.{meaning}
 use Rattle.model.specs.Run.{State, noSet, current, tag, body, kindOf, meant, refusal, accepted, after, outcome}
 use Rattle.model.specs.Points.{Vector, Point, InRange}

@@ -10,7 +10,7 @@ use lib.ListN.{length, getD, replicate, length-replicate, List·getD-map}
 use lib.IntN.{ℤ, pos, negℤ, _*ℤ_}
 use Rattle.whole.specs.Round.{scale}
 use Rattle.whole.specs.Tab.{getD-tab}
-use Rattle.rational.specs.Rational.{ℚ, _+ℚ_, _-ℚ_, _*ℚ_, negℚ, ι, ½, 0ℚ, 1ℚ, NonNeg, _≤ℚ_}
+use Rattle.rational.specs.Rational.{ℚ, _+ℚ_, _*ℚ_, negℚ, ι, ½, 0ℚ, 1ℚ, NonNeg, _≤ℚ_}
 use Rattle.rational.specs.Ring.{ring, +ℚ-assoc, *ℚ-assoc, one-*ℚ, *ℚ-one, half-twice, +ℚ-neg, +ℚ-comm, +ℚ-zero, zero-*ℚ, negℚ-negℚ, negℚ-*, *ℚ-negℚ}
 use Rattle.rational.specs.Pinned.{ι-+, ι-*, ι-neg}
 use Rattle.rational.specs.Power.{power}
@@ -24,6 +24,8 @@ use Rattle.model.specs.Limits.{maxTerms, maxGenerators}
 use Rattle.model.specs.Set.{Term, Zonotope, at, generatorSizes}
 use Rattle.model.specs.Valid.{rises}
 use Rattle.model.specs.Operations.{union, align, aligned, joined}
+use Rattle.model.specs.Motion.{between, withFresh}
+use Rattle.model.specs.Between.{HullBetween, HullEnds}
 use Rattle.model.specs.Hull.{halved, blend, opposite, larger, independentPart, blended, hull}
 use Rattle.model.specs.Step.{rounded}
 use Rattle.model.specs.Points.{Vector, monomial, termsAt, generatorsAt, valueAt, Point, InRange}
@@ -228,17 +230,13 @@ module _ (next : ℕ) (s u : Zonotope) (γ : Vector) (rising : rises ltb (s .ide
 -- at the values γ, which has the blend as the value of `next`, the blend of a point of each set is a point of the hull
 pub hull-point : (weights : List ℕ) (next : ℕ) {s u : Zonotope} {γ x y : Vector} → InRange γ → rises ltb (s .identifiers) ≡ true
     → s .dimension ≡ u .dimension → Point s γ x → Point u γ y
-    → Point (hull weights next s u) γ (λ i. ½ *ℚ ((1ℚ +ℚ γ next) *ℚ x i +ℚ (1ℚ -ℚ γ next) *ℚ y i))
+    → Point (hull weights next s u) γ (between (γ next) x y)
 unfolding hull
 hull-point weights next {s} {u} {γ} w r d p q =
     finish-covers weights maxTerms maxGenerators (rounded (blended next s u)) .keeps w
     (rounded-point _ w (blend-point next s u γ r d (w next) p q))
 
--- ---- the promise of a hull
--- the current values, and the blend for the fresh factor
-abbrev pub withBlend : ℕ → ℚ → Vector → Vector
-withBlend next c α k = cond (ltb k next) (α k) c
-
+-- ---- what is claimed of it
 point-as : {s : Zonotope} {α x y : Vector} → ((i : ℕ) → x i ≡ y i) → Point s α x → Point s α y
 point-as e p = record {
   numbers = p .numbers;
@@ -247,47 +245,40 @@ point-as e p = record {
   near = λ i h. record { off = p .near i h .off; small = p .near i h .small; is = sym (e i) ∙ p .near i h .is };
 }
 
-module _ (weights : List ℕ) (next : ℕ) {s u : Zonotope} {α x y : Vector} (w : InRange α) (rising : rises ltb (s .identifiers) ≡ true)
-    (same : s .dimension ≡ u .dimension) (first : All (_< next) (s .identifiers)) (second : All (_< next) (u .identifiers))
-    (p : Point s α x) (q : Point u α y) where
-  old : (c : ℚ) (k : ℕ) → k < next → α k ≡ withBlend next c α k
-  old c k h = rw (lt-ltb k next h)
+-- values with a fresh one
+old-values : (next : ℕ) (c : ℚ) (α : Vector) (k : ℕ) → k < next → α k ≡ withFresh next c α k
+old-values next c α k h = rw (lt-ltb k next h)
 
-  blend-in : (c : ℚ) → Within c 1ℚ → InRange (withBlend next c α)
-  blend-in c h k = go (ltb k next)
-    where
-      go : (b : Bool) → Within (cond b (α k) c) 1ℚ
-      go true = w k
-      go false = h
+fresh-in : (next : ℕ) {c : ℚ} {α : Vector} → Within c 1ℚ → InRange α → InRange (withFresh next c α)
+fresh-in next {c} {α} h w k = go (ltb k next)
+  where
+    go : (b : Bool) → Within (cond b (α k) c) 1ℚ
+    go true = w k
+    go false = h
 
-  -- every point between x and y, at equal factor values
-  pub between : (c : ℚ) → Within c 1ℚ
-      → Point (hull weights next s u) (withBlend next c α) (λ i. ½ *ℚ ((1ℚ +ℚ c) *ℚ x i +ℚ (1ℚ -ℚ c) *ℚ y i))
-  between c h =
-      subst (λ (a : ℚ). Point (hull weights next s u) (withBlend next c α) (λ i. ½ *ℚ ((1ℚ +ℚ a) *ℚ x i +ℚ (1ℚ -ℚ a) *ℚ y i)))
-      (rw (le-ltb next next (omega arith)))
-      (hull-point weights next {s = s} {u = u} (blend-in c h) rising same (same-values (All-imp (old c) first) .0 p)
-      (same-values (All-imp (old c) second) .0 q))
+-- Every point between the two, at equal factor values, is one of the hull.
+pub hull-between : HullBetween
+hull-between weights next s u α x y o c h =
+    subst (λ (a : ℚ). Point (hull weights next s u) (withFresh next c α) (between a x y)) (rw (le-ltb next next (omega arith)))
+    (hull-point weights next {s = s} {u = u} (fresh-in next h (o .in-range)) (o .in-order) (o .same-dimension)
+    (same-values (All-imp (old-values next c α) (o .first-below)) .0 (o .first))
+    (same-values (All-imp (old-values next c α) (o .second-below)) .0 (o .second)))
 
-  -- with the blend 1 the first set's points
-  pub first-end : Point (hull weights next s u) (withBlend next 1ℚ α) x
-  first-end = point-as (λ i. ends (x i) (y i)) (between 1ℚ within-one)
-    where
-      ends : (a b : ℚ) → ½ *ℚ ((1ℚ +ℚ 1ℚ) *ℚ a +ℚ (1ℚ -ℚ 1ℚ) *ℚ b) ≡ a
-      ends a b =
-          ap (λ (z : ℚ). ½ *ℚ ((1ℚ +ℚ 1ℚ) *ℚ a +ℚ z *ℚ b)) (+ℚ-neg 1ℚ)
-          ∙ ap (½ *ℚ_) (two 1ℚ a b)
-          ∙ half-twice a
-        where
-          two : (e a b : ℚ) → (1ℚ +ℚ 1ℚ) *ℚ a +ℚ 0ℚ *ℚ b ≡ a +ℚ a
-          two e a b = ap ((1ℚ +ℚ 1ℚ) *ℚ a +ℚ_) (zero-*ℚ b) ∙ simp ring
+between-one : (x y : Vector) (i : ℕ) → between 1ℚ x y i ≡ x i
+between-one x y i =
+    ap (λ (z : ℚ). ½ *ℚ ((1ℚ +ℚ 1ℚ) *ℚ x i +ℚ z *ℚ y i)) (+ℚ-neg 1ℚ)
+    ∙ ap (½ *ℚ_) (ap ((1ℚ +ℚ 1ℚ) *ℚ x i +ℚ_) (zero-*ℚ (y i)) ∙ simp ring)
+    ∙ half-twice (x i)
 
-  -- with the blend -1 the second's
-  pub second-end : Point (hull weights next s u) (withBlend next (negℚ 1ℚ) α) y
-  second-end = point-as (λ i. ends (x i) (y i)) (between (negℚ 1ℚ) (within-neg within-one))
-    where
-      ends : (a b : ℚ) → ½ *ℚ ((1ℚ +ℚ negℚ 1ℚ) *ℚ a +ℚ (1ℚ -ℚ negℚ 1ℚ) *ℚ b) ≡ b
-      ends a b =
-          ap₂ (λ (z c : ℚ). ½ *ℚ (z *ℚ a +ℚ (1ℚ +ℚ c) *ℚ b)) (+ℚ-neg 1ℚ) (negℚ-negℚ 1ℚ)
-          ∙ ap (½ *ℚ_) (ap (_+ℚ (1ℚ +ℚ 1ℚ) *ℚ b) (zero-*ℚ a) ∙ simp ring)
-          ∙ half-twice b
+between-minus-one : (x y : Vector) (i : ℕ) → between (negℚ 1ℚ) x y i ≡ y i
+between-minus-one x y i =
+    ap₂ (λ (z c : ℚ). ½ *ℚ (z *ℚ x i +ℚ (1ℚ +ℚ c) *ℚ y i)) (+ℚ-neg 1ℚ) (negℚ-negℚ 1ℚ)
+    ∙ ap (½ *ℚ_) (ap (_+ℚ (1ℚ +ℚ 1ℚ) *ℚ y i) (zero-*ℚ (x i)) ∙ simp ring)
+    ∙ half-twice (y i)
+
+-- At the blend 1 the first set's points, at -1 the second's.
+pub hull-ends : HullEnds
+hull-ends weights next s u α x y o = (
+  point-as (between-one x y) (hull-between weights next s u α x y o 1ℚ within-one),
+  point-as (between-minus-one x y) (hull-between weights next s u α x y o (negℚ 1ℚ) (within-neg within-one)),
+)

@@ -5,7 +5,7 @@ use mathlib.Core.Bool.{Bool, true, false, _&&_, true≢false}
 use Prim.Native.Nat.{ℕ, _+_, _<_}
 use lib.Dec.{eqb}
 use lib.ListN.{length, length-map, length-append, replicate, length-replicate}
-use lib.IntN.{pos, negℤ, _*ℤ_}
+use lib.IntN.{pos, _*ℤ_}
 use Rattle.whole.specs.Tab.{all, length-tab}
 use Rattle.rational.specs.Sum.{All, none, more, All-imp, All-map, All-++}
 use Rattle.model.specs.Set.{Term, Zonotope}
@@ -51,11 +51,11 @@ opposite-ready : {u : Zonotope} → Ready u → Ready (opposite u)
 unfolding opposite
 opposite-ready {u} r = record {
   shaped = record {
-    centre-long = length-map (u .centre) negℤ ∙ r .shaped .centre-long;
+    centre-long = length-map (u .centre) _ ∙ r .shaped .centre-long;
     radii-long = r .shaped .radii-long;
     rows = All-map _ (All-imp (λ t h. record {
       exponents-long = h .exponents-long;
-      coefficients-long = length-map (t .coefficients) negℤ ∙ h .coefficients-long;
+      coefficients-long = length-map (t .coefficients) _ ∙ h .coefficients-long;
     }) (r .shaped .rows));
     generators-long = r .shaped .generators-long;
   };
@@ -77,7 +77,7 @@ blended-shaped next {s} {u} a b e =
       rows = more (record {
         exponents-long = length-append {A = ℕ} (replicate (length ms) 0) (1 ∷ []) ∙ ap (_+ 1) (length-replicate {A = ℕ} (length ms) 0) ∙ l;
         coefficients-long = length-map (joined s (opposite u) .centre) (pos 8388608 *ℤ_) ∙ difference .centre-long;
-      }) (All-++ (blend-rows 0 l (sum .rows)) (blend-rows 1 l (difference .rows)));
+      }) (All-++ (blend-rows _ l (sum .rows)) (blend-rows _ l (difference .rows)));
       generators-long = none;
     }
 
@@ -91,6 +91,6 @@ blended-ready {next} {s} {u} a b e below above =
       shaped = blended-shaped next a b e;
       identifiers-rise = rising-last (sum .identifiers-rise) (union-all below above);
       has-factors = more (factor-last (replicate (length ms) 0) (1 ∷ []) refl)
-          (All-++ (All-map (blend 0) (All-imp (λ t h. factor-first (t .exponents) (0 ∷ []) h) (sum .has-factors)))
-          (All-map (blend 1) (All-imp (λ t h. factor-last (t .exponents) (1 ∷ []) refl) (joined-ready a (opposite-ready b) e .has-factors))));
+          (All-++ (All-map _ (All-imp (λ t h. factor-first (t .exponents) _ h) (sum .has-factors)))
+          (All-map _ (All-imp (λ t h. factor-first (t .exponents) _ h) (joined-ready a (opposite-ready b) e .has-factors))));
     }

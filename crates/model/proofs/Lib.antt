@@ -26,6 +26,7 @@ pub mod Written
 pub mod TwoCoordinates
 pub mod Refusals
 pub mod Longest
+pub mod HullRun
 pub mod Printed
 pub mod Numerals
 pub mod LastLine

@@ -10,7 +10,7 @@ use lib.ListN.{length, getD}
 use lib.IntN.{pos}
 use borrow.Author.Tests.{lt-ltb, le-ltb}
 use Rattle.whole.specs.Tab.{tab, length-tab}
-use Rattle.rational.specs.Rational.{ℚ, _+ℚ_, _-ℚ_, _*ℚ_, ι, ½, 1ℚ}
+use Rattle.rational.specs.Rational.{ℚ, ι, 1ℚ}
 use Rattle.rational.specs.Bounds.{Within}
 use Rattle.rational.specs.Sum.{All, All-imp}
 use Rattle.model.specs.Limits.{firstFresh, fileIdentifiers, maxTerms, maxGenerators, standardWeights}
@@ -22,7 +22,7 @@ use Rattle.model.specs.Hull as Hull
 use Rattle.model.specs.Body.{givenSet, givenStep, givenRadii, termLimit, generatorLimit}
 use Rattle.model.specs.Field.{Kind, start, step, disturbance, independent, tied, reduction, check, hull, unknown, meaning}
 use Rattle.model.specs.Points.{Vector, Point, InRange}
-use Rattle.model.specs.Motion.{Picks, bodyPoint, offsetLimit, move, valuesAfter}
+use Rattle.model.specs.Motion.{between, Picks, bodyPoint, offsetLimit, move, valuesAfter}
 use Rattle.model.specs.Precision.{Renumbers}
 use Rattle.model.proofs.Tests.{all-tab, true-rises}
 use Rattle.model.proofs.Shape.{Valid, Ordered, ranged}
@@ -147,7 +147,7 @@ module _ (b : List ℕ) (p : Picks) (m next : ℕ) (s : Zonotope) {α x : Vector
       let u-in = same-values {s = givenSet b} {α = p .values} {β = γ} (file-values p l agree old v) .0
       (body-point p m (givenSet b) (p .values) (i .numbers) (i .offsets)) in
       subst (λ (c : ℚ). Point (Hull.hull standardWeights next s (givenSet b)) γ
-      (λ j. ½ *ℚ ((1ℚ +ℚ c) *ℚ x j +ℚ (1ℚ -ℚ c) *ℚ bodyPoint p m (givenSet b) (p .values) j))) e
+      (between c x (bodyPoint p m (givenSet b) (p .values)))) e
       (hull-point standardWeights next (values-range b p m next α hull w (i .own) (i .blend)) (rising (h refl .0 .ordered))
       (sym (given-dimension b ∙ dimension-same b next s hull q)) s-in u-in)
   keeps step i h q =

@@ -16,6 +16,7 @@
 --     Points       the points of a set at given factor values
 --     Motion       what a motion is, and what is claimed of every motion (demand 3)
 --     Precision    how close the results are to the true points, and what is claimed of that (demand 2)
+--     Between      what is claimed of a hull
 pub mod Limits
 pub mod Set
 pub mod Valid
@@ -35,3 +36,4 @@ pub mod Marked
 pub mod Points
 pub mod Motion
 pub mod Precision
+pub mod Between

@@ -70,22 +70,30 @@ image s x i =
     +ℚ pos 1 over 4096 *ℚ sum (λ j. ι (linearAt s i j) *ℚ x j) (places (s .columns))
     +ℚ pos 1 over scale *ℚ sum (λ j. x j *ℚ sum (λ l. ι (quadraticAt s i j l) *ℚ x l) (places (s .columns))) (places (s .columns))
 
+-- the point between x and y at the blend c: x where it is 1, y where it is -1
+abbrev pub between : ℚ → Vector → Vector → Vector
+between c x y i = ½ *ℚ ((1ℚ +ℚ c) *ℚ x i +ℚ (1ℚ -ℚ c) *ℚ y i)
+
 -- at an accepted field
 unfoldable pub move : Kind → List ℕ → Picks → ℕ → Vector → Vector
 move start b p m x i = bodyPoint p m (givenSet b) (p .values) i
 move step b p m x i = image (givenStep b) x i
 move tied b p m x i = x i +ℚ bodyPoint p m (givenSet b) (p .values) i
 move independent b p m x i = x i +ℚ bodyPoint p m (givenSet b) (p .own m) i
-move hull b p m x i = ½ *ℚ ((1ℚ +ℚ p .blend m) *ℚ x i +ℚ (1ℚ -ℚ p .blend m) *ℚ bodyPoint p m (givenSet b) (p .values) i)
+move hull b p m x i = between (p .blend m) x (bodyPoint p m (givenSet b) (p .values)) i
 move disturbance b p m x i = x i +ℚ p .offsets m i
 move reduction b p m x i = x i
 move check b p m x i = x i
 move unknown b p m x i = x i
 
+-- values, where identifiers from `next` on have the value c
+abbrev pub withFresh : ℕ → ℚ → Vector → Vector
+withFresh next c α k = cond (ltb k next) (α k) c
+
 -- the values of identifiers: those that an independent sum made fresh, from `next` on, take that sum's own values; a hull's is the blend
 unfoldable pub valuesAfter : Kind → List ℕ → Picks → ℕ → ℕ → Vector → Vector
 valuesAfter independent b p m next α k = cond (ltb k next) (α k) (p .own m (getD (givenSet b .identifiers) (k - next) 0))
-valuesAfter hull b p m next α k = cond (ltb k next) (α k) (p .blend m)
+valuesAfter hull b p m next α k = withFresh next (p .blend m) α k
 valuesAfter start b p m next α k = α k
 valuesAfter step b p m next α k = α k
 valuesAfter tied b p m next α k = α k

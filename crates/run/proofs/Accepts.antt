@@ -1,12 +1,12 @@
 -- An answer accepts its field exactly where the definitions do, and what its case tells of the outcome.
-use mathlib.Core.Path.{_≡_, refl, sym, _∙_, ap, subst}
+use mathlib.Core.Path.{_≡_, refl, _∙_, ap}
 use mathlib.Core.List.{List, [], _∷_}
 use mathlib.Core.Option.{Option, none, some}
-use mathlib.Core.Bool.{Bool, true, false, cond, _||_, true≢false}
+use mathlib.Core.Bool.{Bool, true, false, cond, true≢false}
 use Prim.Native.Nat.{ℕ, zero, suc, _≤_}
 use native.Mathlib.Omega.{arith}
 use borrow.Author.Tests.{ltb-false, eqb-true, not-false}
-use lib.Dec.{T, ltb, eqb}
+use lib.Dec.{ltb}
 use Rattle.whole.specs.Tests.{or-left, or-right}
 use Rattle.model.specs.Limits.{lastTag}
 use Rattle.model.specs.Set.{Zonotope}

@@ -1,5 +1,4 @@
 -- `kinds::hulled` meets its contract.
-use Prim.Native.Nat.{_+_, _≤_}
 use native.Mathlib.Omega.{arith}
 use Rattle.model.specs.Field.{hull}
 use Rattle.advance.specs.Kinds.{not-last}

@@ -1,5 +1,5 @@
 -- `kinds::stepped` meets its contract.
-use mathlib.Core.Path.{_≡_, refl, _∙_}
+use mathlib.Core.Path.{_≡_, _∙_}
 use Rattle.model.specs.Field.{step}
 use Rattle.zonotope.specs.Record.{view}
 use Rattle.stepping.specs.Work.{worked}
