@@ -7,7 +7,7 @@ use native.Mathlib.Omega.{arith}
 use Rattle.model.specs.Limits.{recordIdentifiers, standardWeights}
 use Rattle.model.specs.Operations.{disturb, reduce, tiedSum, independentSum, renumbered}
 use Rattle.model.specs.Run.{firstOf}
-use Rattle.model.specs.Library.{ofSecond, ofRadii, ofLimits, examine, disturbRefusal, reduceRefusal, tiedRefusal, independentRefusal}
+use Rattle.model.specs.Library.{ofRadii, ofLimits, badNext, examine, disturbRefusal, reduceRefusal, tiedRefusal, independentRefusal}
 use Rattle.model.proofs.Shape.{Valid, counted}
 use Rattle.model.proofs.Held.{held, held-valid, valid-ready, disturb-held, reduce-held, sum-held, independent-held}
 use Rattle.zonotope.specs.declared.PolyZonotope.{PolyZonotope}
@@ -20,9 +20,10 @@ use Rattle.answers.specs.Answer.{answered, ofResult, result-narrow}
 use Rattle.answers.specs.Order.{neither}
 use Rattle.answers.specs.Chain.{Usable, answer-chained, accepted-valid, valid-held, held-again}
 use Rattle.summing.specs.Summable.{ofFactors, factors-in}
-use Rattle.sums.specs.Causes.{beforeDisturbing, beforeReducing, beforeSumming, ofNext}
+use Rattle.summing.specs.Arguments.{beforeSumming, ofNext, sets-in, next-in, next-above}
+use Rattle.sums.specs.Causes.{beforeDisturbing, beforeReducing}
 use Rattle.sums.specs.Causes.{disturb-order, reduce-order, tied-order, independent-order}
-use Rattle.sums.specs.Passed.{radii-in, limits-in, second-in, next-above}
+use Rattle.sums.specs.Passed.{radii-in, limits-in}
 
 -- ---- where no cause refuses, the result is valid
 disturb-valid : (s : PolyZonotope) (n : ℕ) (radii : List ℕ) → disturbRefusal n radii (given s) ≡ none
@@ -50,30 +51,28 @@ tied-valid a b e =
     let m = tiedSum standardWeights (view a) (view b) in
     let factors = ofFactors (view a) (view b) in
     let all = neither (beforeSumming (given a) (given b)) (orElse factors (ofResult m)) (sym (tied-order (given a) (given b)) ∙ e) in
-    let first = neither (examine (given a)) (firstOf (ofSecond (given a) (given b))) (all .0) in
+    let sets = sets-in (given a) (given b) (all .0) in
     let last = neither factors (ofResult m) (all .1) in
-    let second = second-in (given a) (given b) (first .1) in
-    let u = accepted-valid b (second .0) in
-    held-again (sum-held standardWeights (valid-held (accepted-valid a (valid (given a) (first .0)))) (valid-ready u) (second .1)
+    let u = accepted-valid b (sets .1) in
+    held-again (sum-held standardWeights (valid-held (accepted-valid a (sets .0))) (valid-ready u) (sets .2)
     (valid-held u .identifiers-in) (factors-in (view a) (view b) (last .0)) (result-narrow m (last .1)))
 
 independent-valid : (a b : PolyZonotope) (next : ℕ) → independentRefusal next (given a) (given b) ≡ none
     → Valid recordIdentifiers (independentSum standardWeights next (view a) (view b))
 independent-valid a b next e =
     let m = independentSum standardWeights next (view a) (view b) in
-    let fresh = ofNext next (view a) in
+    let fresh = ofNext (badNext next (view a)) in
     let factors = ofFactors (view a) (renumbered next (view b)) in
     let all = neither (orElse (beforeSumming (given a) (given b)) fresh) (orElse factors (ofResult m))
     (sym (independent-order next (given a) (given b)) ∙ e) in
-    let sets = neither (beforeSumming (given a) (given b)) fresh (all .0) in
-    let first = neither (examine (given a)) (firstOf (ofSecond (given a) (given b))) (sets .0) in
+    let asked = neither (beforeSumming (given a) (given b)) fresh (all .0) in
+    let sets = sets-in (given a) (given b) (asked .0) in
     let last = neither factors (ofResult m) (all .1) in
-    let second = second-in (given a) (given b) (first .1) in
-    let u = accepted-valid b (second .0) in
-    let above = next-above next (view a) (sets .1) in
+    let u = accepted-valid b (sets .1) in
+    let above = next-above next (view a) (next-in _ (asked .1)) in
     let few = counted (view b) (u .counts) .factors-few in
-    let own = held next (accepted-valid a (valid (given a) (first .0))) (above .2) in
-    held-valid (independent-held standardWeights own (omega (arith, above .0)) (valid-ready u) (second .1)
+    let own = held next (accepted-valid a (sets .0)) (above .2) in
+    held-valid (independent-held standardWeights own (omega (arith, above .0)) (valid-ready u) (sets .2)
     (factors-in (view a) (renumbered next (view b)) (last .0)) (result-narrow m (last .1)))
     (omega (arith, above .1, few))
 

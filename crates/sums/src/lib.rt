@@ -37,7 +37,7 @@ pub fn reduce(s: PolyZonotope, term_limit: usize, generator_limit: usize) -> Cha
 pub fn tied_sum(first: PolyZonotope, second: PolyZonotope) -> Changed
     ensures { λ r. ⌜ r ≡ answered (tiedRefusal (given first) (given second)) first (tiedSum standardWeights (view first) (view second)) ⌝ }
 {
-    let o = refusals::before_summing(first, second);
+    let o = summing::arguments::before_summing(first, second);
     if answers::is_refused(o) {
         return Changed {
             outcome: o,

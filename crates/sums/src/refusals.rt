@@ -5,11 +5,12 @@ ghost use lib.Dec.{ltb};
 ghost use Rattle.whole.specs.Tab.{any};
 ghost use Rattle.model.specs.Limits.{maxTerms, maxGenerators, maxDisturbance};
 ghost use Rattle.model.specs.Run.{firstOf};
-ghost use Rattle.model.specs.Library.{ofSecond, ofRadii, ofLimits, badNext};
+ghost use Rattle.model.specs.Library.{ofRadii, ofLimits, badNext};
 ghost use Rattle.zonotope.specs.Record.{view, given};
 ghost use Rattle.zonotope.specs.Shape.{Sized};
 ghost use Rattle.zonotope.specs.Answer.{examined, orElse};
-ghost use Rattle.sums.specs.Causes.{beforeDisturbing, beforeReducing, beforeSumming, ofNext};
+ghost use Rattle.summing.specs.Arguments.{beforeSumming, ofNext};
+ghost use Rattle.sums.specs.Causes.{beforeDisturbing, beforeReducing};
 use zonotope::Examined;
 use zonotope::PolyZonotope;
 
@@ -71,38 +72,12 @@ fn of_limits(term_limit: usize, generator_limit: usize) -> Examined
     Examined::Accepted
 }
 
-// The first cause that refuses two sets: the first one, then the second.
-pub fn before_summing(first: PolyZonotope, second: PolyZonotope) -> Examined
-    ensures { λ r. ⌜ r ≡ examined (beforeSumming (given first) (given second)) ⌝ }
-    ensures sized { λ r. ⌜ (r ≡ Examined.Accepted → Sized first × Sized second) ⌝ }
-{
-    let o = zonotope::examine(first);
-    if answers::is_refused(o) {
-        return o;
-    }
-    of_second(first, second)
-}
-
-// The first cause that refuses the second set: 5 stands between its counts and the rest.
-fn of_second(first: PolyZonotope, second: PolyZonotope) -> Examined
-    ensures { λ r. ⌜ r ≡ examined (firstOf (ofSecond (given first) (given second))) ⌝ }
-    ensures sized { λ r. ⌜ (r ≡ Examined.Accepted → Sized second) ⌝ }
-{
-    if zonotope::bad_counts(second) {
-        return Examined::Refused(4);
-    }
-    if second.dimension != first.dimension {
-        return Examined::Refused(5);
-    }
-    zonotope::examine(second)
-}
-
-// The same for an independent sum, then the next identifier.
+// The first cause that refuses an independent sum before its result is looked at: the two sets, then the next identifier.
 pub fn before_renumbering(first: PolyZonotope, second: PolyZonotope, next: u32) -> Examined
-    ensures { λ r. ⌜ r ≡ examined (orElse (beforeSumming (given first) (given second)) (ofNext next (view first))) ⌝ }
+    ensures { λ r. ⌜ r ≡ examined (orElse (beforeSumming (given first) (given second)) (ofNext (badNext next (view first)))) ⌝ }
     ensures sized { λ r. ⌜ (r ≡ Examined.Accepted → Sized first × Sized second) ⌝ }
 {
-    let o = before_summing(first, second);
+    let o = summing::arguments::before_summing(first, second);
     if answers::is_refused(o) {
         return o;
     }

@@ -2,13 +2,14 @@
 use mathlib.Core.Path.{sym, _∙_}
 use Rattle.model.specs.Limits.{standardWeights}
 use Rattle.model.specs.Operations.{renumbered, independentSum}
+use Rattle.model.specs.Library.{badNext}
 use Rattle.zonotope.specs.Record.{view, given}
 use Rattle.zonotope.specs.Answer.{orElse}
 use Rattle.answers.specs.Answer.{ofResult, accepting, none-refuses, answer-refused, answer-next}
-use Rattle.summing.specs.Summable.{ofFactors}
-use Rattle.sums.specs.Causes.{beforeSumming, ofNext, independent-order}
 use Rattle.answers.specs.Order.{neither}
-use Rattle.sums.specs.Passed.{summable, next-in}
+use Rattle.summing.specs.Summable.{ofFactors}
+use Rattle.summing.specs.Arguments.{beforeSumming, ofNext, summable, next-in, next-above}
+use Rattle.sums.specs.Causes.{independent-order}
 use borrow.Author.Needs.{needs}
 use Rattle.sums.proofs.independent_sum.Statement.{statement}
 use Rattle.sums.proofs.independent_sum.Tie as tie
@@ -23,7 +24,7 @@ returns : tie.Need-returns
 returns c =
     let a = c .before .before .before .args in
     let m = independentSum standardWeights (a .next) (view (a .first)) (view (a .second)) in
-    answer-refused (orElse (beforeSumming (given (a .first)) (given (a .second))) (ofNext (a .next) (view (a .first))))
+    answer-refused (orElse (beforeSumming (given (a .first)) (given (a .second))) (ofNext (badNext (a .next) (view (a .first)))))
     (orElse (ofFactors (view (a .first)) (renumbered (a .next) (view (a .second)))) (ofResult m))
     (c .before .before .before-renumbering .ensures .0)
     (independent-order (a .next) (given (a .first)) (given (a .second))) (a .first) m (sym (c .before .is-refused .ensures) ∙ c .if1 .taken)
@@ -33,16 +34,17 @@ independent-requires c κs =
     let o = c .before .before .before-renumbering .ensures in
     let yes = sym (c .before .is-refused .ensures) ∙ c .if1 .left in
     let a = c .before .before .before .args in
-    let n = neither (beforeSumming (given (a .first)) (given (a .second))) (ofNext (a .next) (view (a .first)))
+    let n = neither (beforeSumming (given (a .first)) (given (a .second))) (ofNext (badNext (a .next) (view (a .first))))
     (none-refuses _ (o .0) yes) in
-    (summable (a .first) (a .second) (o .1 (accepting _ yes)) (n .0), next-in (a .next) (view (a .first)) (n .1))
+    let above = next-above (a .next) (view (a .first)) (next-in _ (n .1)) in
+    (summable (a .first) (a .second) (o .1 (accepting _ yes)) (n .0), record { few = above .1 })
 
 returns-2 : tie.Need-returns-2
 returns-2 c =
     let i = c .before in
     let a = i .before .before .before .args in
     let m = independentSum standardWeights (a .next) (view (a .first)) (view (a .second)) in
-    answer-next (orElse (beforeSumming (given (a .first)) (given (a .second))) (ofNext (a .next) (view (a .first))))
+    answer-next (orElse (beforeSumming (given (a .first)) (given (a .second))) (ofNext (badNext (a .next) (view (a .first)))))
     (orElse (ofFactors (view (a .first)) (renumbered (a .next) (view (a .second)))) (ofResult m))
     (i .before .before .before-renumbering .ensures .0)
     (independent-order (a .next) (given (a .first)) (given (a .second))) (a .first) m (sym (i .before .is-refused .ensures) ∙ i .if1 .left)

@@ -6,8 +6,8 @@ use Rattle.zonotope.specs.Record.{view, given}
 use Rattle.zonotope.specs.Answer.{orElse}
 use Rattle.answers.specs.Answer.{ofResult, accepting, none-refuses, answer-refused, answer-next}
 use Rattle.summing.specs.Summable.{ofFactors}
-use Rattle.sums.specs.Causes.{beforeSumming, tied-order}
-use Rattle.sums.specs.Passed.{summable}
+use Rattle.summing.specs.Arguments.{beforeSumming, summable}
+use Rattle.sums.specs.Causes.{tied-order}
 use borrow.Author.Needs.{needs}
 use Rattle.sums.proofs.tied_sum.Statement.{statement}
 use Rattle.sums.proofs.tied_sum.Tie as tie

@@ -1,12 +1,12 @@
 -- `refusals::before_renumbering` meets its contract.
 use mathlib.Core.Path.{sym, _∙_}
+use Rattle.model.specs.Library.{badNext}
 use Rattle.zonotope.specs.Record.{view, given}
 use Rattle.zonotope.specs.Answer.{refused}
 use Rattle.align.specs.Examined.{counts}
 use Rattle.answers.specs.Answer.{accepting, none-refuses, refused-first, refused-not, asked-next}
-use Rattle.sums.specs.Causes.{beforeSumming, ofNext}
 use Rattle.summing.specs.Summand.{for-sum}
-use Rattle.sums.specs.Passed.{summable, next-refused, next-accepted}
+use Rattle.summing.specs.Arguments.{beforeSumming, ofNext, summable, next-refused, next-accepted}
 use borrow.Author.Needs.{needs}
 use Rattle.sums.proofs.refusals.before_renumbering.Statement.{statement}
 use Rattle.sums.proofs.refusals.before_renumbering.Tie as tie
@@ -21,7 +21,7 @@ returns : tie.Need-returns
 returns c =
     let a = c .before .before .before .args in
     let no = sym (c .before .is-refused .ensures) ∙ c .if1 .taken in (
-      refused-first (beforeSumming (given (a .first)) (given (a .second))) (ofNext (a .next) (view (a .first)))
+      refused-first (beforeSumming (given (a .first)) (given (a .second))) (ofNext (badNext (a .next) (view (a .first))))
           (c .before .before .before-summing .ensures .0) no,
       refused-not no,
     )
@@ -40,8 +40,8 @@ returns-2 c =
     let a = i .before .before .before .args in
     let o = i .before .before .before-summing .ensures in
     let yes = sym (i .before .is-refused .ensures) ∙ i .if1 .left in (
-      asked-next (beforeSumming (given (a .first)) (given (a .second))) (ofNext (a .next) (view (a .first))) (o .0) yes
-          (next-refused (a .next) (view (a .first)) (sym (c .before .bad-next .ensures) ∙ c .if2 .taken)),
+      asked-next (beforeSumming (given (a .first)) (given (a .second))) (ofNext (badNext (a .next) (view (a .first)))) (o .0) yes
+          (next-refused _ (sym (c .before .bad-next .ensures) ∙ c .if2 .taken)),
       refused 11,
     )
 
@@ -51,8 +51,8 @@ returns-3 c =
     let a = i .before .before .before .args in
     let o = i .before .before .before-summing .ensures in
     let yes = sym (i .before .is-refused .ensures) ∙ i .if1 .left in (
-      asked-next (beforeSumming (given (a .first)) (given (a .second))) (ofNext (a .next) (view (a .first))) (o .0) yes
-          (next-accepted (a .next) (view (a .first)) (sym (c .before .bad-next .ensures) ∙ c .if2 .left)),
+      asked-next (beforeSumming (given (a .first)) (given (a .second))) (ofNext (badNext (a .next) (view (a .first)))) (o .0) yes
+          (next-accepted _ (sym (c .before .bad-next .ensures) ∙ c .if2 .left)),
       λ e. o .1 (accepting _ yes),
     )
 

@@ -1,11 +1,11 @@
--- `refusals::of_second` meets its contract.
+-- `arguments::of_second` meets its contract.
 use mathlib.Core.Path.{sym, _∙_}
 use Rattle.zonotope.specs.Record.{view, given}
 use Rattle.zonotope.specs.Answer.{refused}
-use Rattle.sums.specs.Causes.{second-counts, second-dimension, second-rest}
+use Rattle.summing.specs.Arguments.{second-counts, second-dimension, second-rest}
 use borrow.Author.Needs.{needs}
-use Rattle.sums.proofs.refusals.of_second.Statement.{statement}
-use Rattle.sums.proofs.refusals.of_second.Tie as tie
+use Rattle.summing.proofs.arguments.of_second.Statement.{statement}
+use Rattle.summing.proofs.arguments.of_second.Tie as tie
 
 bad-counts-requires : tie.Need-bad-counts-requires
 bad-counts-requires c κs = search needs

@@ -1,12 +1,12 @@
--- `refusals::before_summing` meets its contract.
+-- `arguments::before_summing` meets its contract.
 use mathlib.Core.Path.{sym, _∙_}
 use Rattle.model.specs.Run.{firstOf}
 use Rattle.model.specs.Library.{ofSecond, examine}
 use Rattle.zonotope.specs.Record.{given}
 use Rattle.answers.specs.Answer.{accepting, refused-first, asked-next, refused-not}
 use borrow.Author.Needs.{needs}
-use Rattle.sums.proofs.refusals.before_summing.Statement.{statement}
-use Rattle.sums.proofs.refusals.before_summing.Tie as tie
+use Rattle.summing.proofs.arguments.before_summing.Statement.{statement}
+use Rattle.summing.proofs.arguments.before_summing.Tie as tie
 
 examine-requires : tie.Need-examine-requires
 examine-requires c κs = search needs
