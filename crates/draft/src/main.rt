@@ -1,5 +1,6 @@
 // One example of each call, and document 01's run-only cases of single operations. Its `stdout` was worked out by other means:
 // docs/EXAMPLES.md.
+mod hulls;
 mod sets;
 mod show;
 mod steps;
@@ -54,4 +55,5 @@ fn main() {
     examples_of_checks();
     examples_of_sums();
     steps::examples();
+    hulls::examples();
 }

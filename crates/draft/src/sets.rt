@@ -20,6 +20,24 @@ pub fn line(slope: i32) -> PolyZonotope {
     s
 }
 
+// In one coordinate: -2 + 4 a.
+pub fn lower_line() -> PolyZonotope {
+    let mut s = line(4);
+    s.centre[0] = -2;
+    s
+}
+
+// In one coordinate: a centre, one independent part and a radius.
+pub fn around(centre: i32, part: i32, radius: u32) -> PolyZonotope {
+    let mut s = zonotope::empty();
+    s.dimension = 1;
+    s.generators = 1;
+    s.centre[0] = centre;
+    s.vectors[0] = part;
+    s.radii[0] = radius;
+    s
+}
+
 // In one coordinate: the sum of the factors 1 to 6. In the order of terms the last factor comes first.
 pub fn first_six() -> PolyZonotope {
     let mut s = zonotope::empty();
