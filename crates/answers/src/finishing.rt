@@ -1,4 +1,5 @@
-// Results in rows, finished with the standard weights in local arrays: for 80 rows, which is enough for sums, or for the 860 of a step.
+// Results in rows, finished with the standard weights in local arrays: for 80 rows, which is enough for sums, for the 161 of a hull, or for
+// the 860 of a step.
 ghost use mathlib.Core.Path.{_≡_};
 ghost use Prim.Native.Nat.{_≤_};
 ghost use Rattle.model.specs.Limits.{standardWeights};
@@ -27,6 +28,24 @@ pub fn finish_rows(
         let mut places = [0u16; 80];
         let mut heads = [0u16; 80];
         let mut sums = [0i64; 480];
+        return finish_in(
+            u,
+            e,
+            c,
+            rows,
+            &mut places,
+            &mut heads,
+            &mut sums,
+            g,
+            generators,
+            term_limit,
+            generator_limit,
+        );
+    }
+    if rows <= 161 {
+        let mut places = [0u16; 161];
+        let mut heads = [0u16; 161];
+        let mut sums = [0i64; 966];
         return finish_in(
             u,
             e,

@@ -36,14 +36,35 @@ slice-aggregate-finish-in-6 c = search needs
 
 finish-in-requires-2 : tie.Need-finish-in-requires-2
 finish-in-requires-2 c κs =
-    let s = c .before .before .before .before .before .before in
-    (s .pre .0, s .pre .1, s .pre .2, room 860 (s .args .rows) (s .pre .0 .rows-few))
+    let t = c .before .before .before .before in
+    let s = t .before .before .before in
+    (s .pre .0, s .pre .1, s .pre .2, room 161 (s .args .rows) (t .if2 .taken))
 
 same-length-2 : tie.Need-same-length-2
 same-length-2 c = search needs
 
 returns-2 : tie.Need-returns-2
 returns-2 c = search needs
+
+slice-aggregate-finish-in-7 : tie.Need-slice-aggregate-finish-in-7
+slice-aggregate-finish-in-7 c = search needs
+
+slice-aggregate-finish-in-8 : tie.Need-slice-aggregate-finish-in-8
+slice-aggregate-finish-in-8 c = search needs
+
+slice-aggregate-finish-in-9 : tie.Need-slice-aggregate-finish-in-9
+slice-aggregate-finish-in-9 c = search needs
+
+finish-in-requires-3 : tie.Need-finish-in-requires-3
+finish-in-requires-3 c κs =
+    let s = c .before .before .before .before .before .before .before in
+    (s .pre .0, s .pre .1, s .pre .2, room 860 (s .args .rows) (s .pre .0 .rows-few))
+
+same-length-3 : tie.Need-same-length-3
+same-length-3 c = search needs
+
+returns-3 : tie.Need-returns-3
+returns-3 c = search needs
 
 pub finish-rows-spec : {M : Type 1} → statement M
 finish-rows-spec =
@@ -60,4 +81,10 @@ finish-rows-spec =
     slice-aggregate-finish-in-6
     finish-in-requires-2
     same-length-2
-    returns-2)
+    returns-2
+    slice-aggregate-finish-in-7
+    slice-aggregate-finish-in-8
+    slice-aggregate-finish-in-9
+    finish-in-requires-3
+    same-length-3
+    returns-3)
