@@ -4,8 +4,9 @@ use mathlib.Core.List.{List, _++_, map, map-append}
 use Prim.Native.Nat.{ℕ, _+_, _-_, _*_, _≤_}
 use native.Mathlib.Omega.{arith}
 use lib.ListN.{length, getD}
-use lib.IntN.{ℤ, pos, natAbs, _+ℤ_}
+use lib.IntN.{ℤ, pos, natAbs, _+ℤ_, _*ℤ_}
 use Rattle.whole.specs.Tab.{tab, tab-cong, map-tab, length-tab}
+use Rattle.whole.specs.Ring.{one-*ℤ}
 use Rattle.whole.specs.Size.{abs-add}
 use Rattle.model.specs.Limits.{maxSpan}
 use Rattle.model.specs.Set.{Term, Zonotope, at}
@@ -126,9 +127,9 @@ module _ (a b : PolyZonotope) (x : Examined a) (y : Examined b) where
 
   -- centre and radii
   module _ (ids : List ℕ) where
-    pub joins-centre : tab 6 (λ i. getD (a .centre) i (pos 0) +ℤ getD (b .centre) i (pos 0)) ≡ wideVector (summed a b ids .centre)
+    pub joins-centre : tab 6 (λ i. getD (a .centre) i (pos 0) +ℤ pos 1 *ℤ getD (b .centre) i (pos 0)) ≡ wideVector (summed a b ids .centre)
     unfolding joined
-    joins-centre = tab-cong 6 _ _ (λ i l. ap₂ _+ℤ_ (centre-wide a x i l) (centre-wide b y i l)
+    joins-centre = tab-cong 6 _ _ (λ i l. ap₂ _+ℤ_ (centre-wide a x i l) (one-*ℤ (getD (b .centre) i (pos 0)) ∙ centre-wide b y i l)
         ∙ sym (plusℤ-at (view a .centre) (view b .centre) i))
 
     pub joins-radii : tab 6 (λ i. getD (a .radii) i 0 + getD (b .radii) i 0) ≡ tab 6 (λ i. getD (summed a b ids .radii) i 0)

@@ -11,7 +11,7 @@ ghost use Rattle.align.specs.Sum.{summed, Factors, Common, Terms, Genera
 use zonotope::PolyZonotope;
 
 mod numbering;
-mod wide;
+pub mod wide;
 
 // Identifiers of up to 24 factors, in the first `count` places.
 pub struct Identifiers {
@@ -97,7 +97,7 @@ fn join(
 {
     let terms = join_terms(a, b, ids, all, e, c);
     let generators = join_generators(a, b, g);
-    let centre = wide::add_centres(&a.centre, &b.centre);
+    let centre = wide::add_centres(&a.centre, 1, &b.centre);
     let radii = wide::add_radii(&a.radii, &b.radii);
     Sum {
         terms,

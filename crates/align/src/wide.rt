@@ -2,7 +2,7 @@
 ghost use mathlib.Core.Path.{_≡_};
 ghost use Prim.Native.Nat.{_+_, _*_, _≤_, _<_};
 ghost use lib.ListN.{length, getD};
-ghost use lib.IntN.{pos, _+ℤ_};
+ghost use lib.IntN.{pos, natAbs, _+ℤ_, _*ℤ_};
 ghost use Rattle.whole.specs.Tab.{tab};
 ghost use Rattle.whole.specs.Write.{write};
 ghost use Rattle.align.specs.Listed.{listed};
@@ -83,26 +83,28 @@ pub fn widen_rows(numbers: &[i32], n: usize, c: &mut [i64], to: usize)
     }
 }
 
-// The sum of two 32-bit numbers at 64 bits.
-fn add_wide(x: i32, y: i32) -> i64
-    ensures { λ r. ⌜ r ≡ x +ℤ y ⌝ }
-{
-    let a = whole::widen(x);
-    let b = whole::widen(y);
-    whole::add(a, b)
-}
-
-// The sum of two centres.
-pub fn add_centres(a: &[i32; 6], b: &[i32; 6]) -> [i64; 6]
-    ensures { λ r. ⌜ r ≡ tab 6 (λ i. getD (now (a .entry)) i (pos 0) +ℤ getD (now (b .entry)) i (pos 0)) ⌝ }
+// The sum of two centres, or their difference: the second counts times `sign`.
+pub fn add_centres(a: &[i32; 6], sign: i64, b: &[i32; 6]) -> [i64; 6]
+    requires { ⌜ natAbs sign ≤ 1 ⌝ }
+    ensures { λ r. ⌜ r ≡ tab 6 (λ i. getD (now (a .entry)) i (pos 0) +ℤ sign *ℤ getD (now (b .entry)) i (pos 0)) ⌝ }
 {
     let mut out = [0i64; 6];
     for i in 0..6 {
         let x = a[i];
         let y = b[i];
-        out[i] = add_wide(x, y);
+        out[i] = add_wide(x, sign, y);
     }
     out
+}
+
+// The same of two 32-bit numbers.
+fn add_wide(x: i32, sign: i64, y: i32) -> i64
+    requires { ⌜ natAbs sign ≤ 1 ⌝ }
+    ensures { λ r. ⌜ r ≡ x +ℤ sign *ℤ y ⌝ }
+{
+    let a = whole::widen(x);
+    let b = whole::widen(y);
+    whole::multiply_add(a, sign, b)
 }
 
 // The sum of the radii of two sets.

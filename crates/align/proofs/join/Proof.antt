@@ -16,7 +16,7 @@ join-generators-requires c κs =
     (p .0, p .1, p .3 .generators-long, p .3 .generators-small)
 
 add-centres-requires : tie.Need-add-centres-requires
-add-centres-requires c κs = tt
+add-centres-requires c κs = search needs
 
 add-radii-requires : tie.Need-add-radii-requires
 add-radii-requires c κs = tt

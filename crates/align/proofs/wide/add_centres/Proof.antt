@@ -2,19 +2,23 @@
 use mathlib.Core.Path.{_≡_, refl, sym, ap, ap₂, _∙_}
 use Prim.Native.Nat.{_+_, _-_, _≤_}
 use native.Mathlib.Omega.{arith}
-use lib.IntN.{pos, _+ℤ_}
+use lib.IntN.{ℤ, pos, _+ℤ_, _*ℤ_}
 use lib.ListN.{getD}
 use borrow.Author.Needs.{needs}
+use mir.Syntax.{w64}
+use mir.Val.{ofZ, toZ}
+use mir.Facts.{toZ-ofZ}
 use Rattle.whole.specs.Fits.{read32, got64}
+use Rattle.whole.specs.Tab.{tab}
 use Rattle.whole.specs.Write.{write, write-none, write-next, write-all}
 use Rattle.align.proofs.wide.add_centres.Statement.{statement}
 use Rattle.align.proofs.wide.add_centres.Tie as tie
 
 abbrev Inv-loop : tie.InvT-loop
-Inv-loop a b out₀ i₀ out i = (i ≤ 6) × (out ≡ write out₀ 0 (λ j. getD a j (pos 0) +ℤ getD b j (pos 0)) i)
+Inv-loop a sign b out₀ i₀ out i = (i ≤ 6) × (out ≡ write out₀ 0 (λ j. getD a j (pos 0) +ℤ toZ w64 sign *ℤ getD b j (pos 0)) i)
 
 abbrev μ-loop : tie.MeasureT-loop
-μ-loop a b out₀ i₀ out i = 6 - i
+μ-loop a sign b out₀ i₀ out i = 6 - i
 
 loop-holds : tie.Need-loop-holds Inv-loop μ-loop
 loop-holds c = (search needs, sym (write-none _ _ _))
@@ -32,7 +36,8 @@ element-copy-out-y : tie.Need-element-copy-out-y Inv-loop μ-loop
 element-copy-out-y c = search needs
 
 add-wide-requires : tie.Need-add-wide-requires Inv-loop μ-loop
-add-wide-requires c κs = search needs
+add-wide-requires c κs =
+    let s = c .before .before .before .before in rw (toZ-ofZ (s .fits .sign)) (s .pre)
 
 mul-out : tie.Need-mul-out Inv-loop μ-loop
 mul-out c = search needs
@@ -54,15 +59,19 @@ loop-again c =
     let y = getD (at .before .args .b .now) i (pos 0) in (
       omega arith,
       write-next _ _ (at .loop .out) i _ (at .loop .inv .1)
-          (got64 (c .add-wide .ensures) (c .add-wide .ok) ∙ ap₂ _+ℤ_ (read32 x (c .before .before .x .given))
-          (read32 y (c .before .y .given))),
+          (got64 (c .add-wide .ensures) (c .add-wide .ok) ∙ ap₂ (λ (x y : ℤ). x +ℤ toZ w64 (ofZ w64 (at .before .args .sign)) *ℤ y)
+          (read32 x (c .before .before .x .given)) (read32 y (c .before .y .given))),
     )
 
 returns : tie.Need-returns Inv-loop μ-loop
 returns c =
     let at = c .before in
     let e : at .loop .i ≡ 6 = omega arith in
-    at .loop .inv .1 ∙ ap (write _ _ _) e ∙ write-all _ _ (pos 0) 6 refl
+    let s = at .before in
+    at .loop .inv .1
+    ∙ ap (write _ _ _) e
+    ∙ write-all _ _ (pos 0) 6 refl
+    ∙ ap (λ (k : ℤ). tab 6 (λ j. getD (s .args .a .now) j (pos 0) +ℤ k *ℤ getD (s .args .b .now) j (pos 0))) (toZ-ofZ (s .fits .sign))
 
 pub add-centres-spec : {M : Type 1} → statement M
 add-centres-spec =
