@@ -1,15 +1,13 @@
 // The rows of a hull, from the rows of the sum of both sets: halved, with and without the blending factor.
 ghost use mathlib.Core.Path.{_≡_};
-ghost use Prim.Native.Nat.{ℕ, _+_, _*_, _≤_, _<_};
-ghost use lib.ListN.{length, getD, replicate};
-ghost use lib.IntN.{pos, natAbs, _*ℤ_, _-ℤ_};
-ghost use Rattle.whole.specs.Tab.{tab};
+ghost use Prim.Native.Nat.{_+_, _*_, _≤_, _<_};
+ghost use lib.ListN.{length, replicate};
+ghost use lib.IntN.{natAbs};
 ghost use Rattle.whole.specs.Write.{write};
-ghost use Rattle.model.specs.Set.{at};
 ghost use Rattle.rows.specs.Rows.{Small};
-ghost use Rattle.hulling.specs.Blending.{powerAt, exponentRuns, numberRuns};
+ghost use Rattle.hulling.specs.Blending.{powerAt, timesAt, exponentRuns, numberRuns};
 
-// Half of a number of a set in raw units, and of its opposite.
+// What a number is multiplied by for its half in raw units, of which 16,777,216 are a unit; and for half of its opposite.
 pub const HALF: i64 = 8388608;
 
 const TURNED_HALF: i64 = -8388608;
@@ -25,8 +23,8 @@ pub fn blend_exponents(e: &[u8], rows: usize, n: usize, f: &mut [u8])
     put_exponents(e, rows, n, 1, f, rows + 1);
 }
 
-// The numbers of a hull, from the rows of the sum, `own` of the first set and `rest` of the second: half the difference of the centres; each
-// row halved; and again, the second set's turned round.
+// The numbers of a hull, from the rows of the sum, `own` of the first set and `rest` of the second: half the difference of the centres;
+// each row halved; and again, the second set's turned round.
 pub fn blend_numbers(difference: &[i64], c: &[i64], own: usize, rest: usize, w: &mut [i64])
     requires { ⌜ (own ≤ 40) × (rest ≤ 40) × (6 ≤ length (now difference)) × (480 ≤ length (now c)) × (966 ≤ length (now w))
         × Small 2097152 (now difference) × Small 2097152 (now c) ⌝ }
@@ -39,30 +37,21 @@ pub fn blend_numbers(difference: &[i64], c: &[i64], own: usize, rest: usize, w: 
     put_halves(c, own, rest, TURNED_HALF, w, rows + 1 + own);
 }
 
-// The difference of two centres.
-pub fn subtract_centres(a: &[i32; 6], b: &[i32; 6]) -> [i64; 6]
-    ensures { λ r. ⌜ r ≡ tab 6 (λ i. getD (now (a .entry)) i (pos 0) -ℤ getD (now (b .entry)) i (pos 0)) ⌝ }
+// From row `to` of w on the numbers of so many rows of c from row `from` on, each times `half`.
+pub fn put_halves(c: &[i64], from: usize, rows: usize, half: i64, w: &mut [i64], to: usize)
+    requires { ⌜ (rows ≤ 80) × (from ≤ 80) × (to ≤ 200) × (from * 6 + rows * 6 ≤ length (now c)) × (to * 6 + rows * 6 ≤ length (now w))
+        × Small 2097152 (now c) × (natAbs half ≤ 8388608) ⌝ }
+    ensures { λ _. ⌜ now (w .exit) ≡ write (now (w .entry)) (to * 6) (timesAt half (now (c .entry)) from) (rows * 6) ⌝ }
 {
-    let mut out = [0i64; 6];
-    for i in 0..6 {
-        let x = a[i];
-        let y = b[i];
-        out[i] = subtract_wide(x, y);
+    for x in 0..rows * 6 {
+        let v = c[from * 6 + x];
+        let y = whole::multiply_add(0, half, v);
+        w[to * 6 + x] = y;
     }
-    out
-}
-
-// The difference of two 32-bit numbers at 64 bits.
-fn subtract_wide(x: i32, y: i32) -> i64
-    ensures { λ r. ⌜ r ≡ x -ℤ y ⌝ }
-{
-    let a = whole::widen(x);
-    let b = whole::widen(y);
-    whole::subtract(a, b)
 }
 
 // From row `to` of f on the exponents of the first rows of e, with p in column n.
-pub fn put_exponents(e: &[u8], rows: usize, n: usize, p: u8, f: &mut [u8], to: usize)
+fn put_exponents(e: &[u8], rows: usize, n: usize, p: u8, f: &mut [u8], to: usize)
     requires { ⌜ (rows ≤ 80) × (to ≤ 100) × (rows * 12 ≤ length (now e)) × (to * 12 + rows * 12 ≤ length (now f)) ⌝ }
     ensures { λ _. ⌜ now (f .exit) ≡ write (now (f .entry)) (to * 12) (powerAt (now (e .entry)) n p) (rows * 12) ⌝ }
 {
@@ -81,17 +70,4 @@ fn power_at(e: &[u8], x: usize, n: usize, p: u8) -> u8
         return p;
     }
     e[x]
-}
-
-// From row `to` of w on the numbers of so many rows of c from row `from` on, each times `half`.
-pub fn put_halves(c: &[i64], from: usize, rows: usize, half: i64, w: &mut [i64], to: usize)
-    requires { ⌜ (rows ≤ 80) × (from ≤ 80) × (to ≤ 200) × (from * 6 + rows * 6 ≤ length (now c)) × (to * 6 + rows * 6 ≤ length (now w))
-        × Small 2097152 (now c) × (natAbs half ≤ 8388608) ⌝ }
-    ensures { λ _. ⌜ now (w .exit) ≡ write (now (w .entry)) (to * 6) (λ (x : ℕ). half *ℤ at (now (c .entry)) (from * 6 + x)) (rows * 6) ⌝ }
-{
-    for x in 0..rows * 6 {
-        let v = c[from * 6 + x];
-        let y = whole::multiply_add(0, half, v);
-        w[to * 6 + x] = y;
-    }
 }

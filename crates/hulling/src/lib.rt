@@ -1,10 +1,9 @@
-// The hull of two examined sets: the points between a point of each at equal factor values, by a fresh factor that blends them.
+// Under the call and the field that give a hull: the hull of two sets that were examined and accepted, which holds every point between a
+// point of each at equal factor values, by a fresh factor that blends them.
 ghost use mathlib.Core.Path.{_≡_};
 ghost use Prim.Native.Nat.{_+_, _*_, _≤_, _<_};
 ghost use lib.Dec.{ltb};
-ghost use lib.ListN.{length, getD, set, replicate};
-ghost use Rattle.whole.specs.Tab.{tab};
-ghost use Rattle.whole.specs.Write.{write};
+ghost use lib.ListN.{length};
 ghost use Rattle.model.specs.Limits.{maxFactors, standardWeights};
 ghost use Rattle.model.specs.Operations.{joined};
 ghost use Rattle.model.specs.Hull.{hull};
@@ -13,13 +12,14 @@ ghost use Rattle.zonotope.specs.Answer.{orElse};
 ghost use Rattle.rows.specs.Rows.{Small};
 ghost use Rattle.align.specs.Examined as Sum;
 ghost use Rattle.align.specs.Sum.{Common};
-ghost use Rattle.image.specs.Remainder.{spread};
 ghost use Rattle.finish.specs.Held.{finishedAs};
 ghost use Rattle.summing.specs.Summable.{Summable};
 ghost use Rattle.answers.specs.Answer.{answered, ofResult};
 ghost use Rattle.answers.specs.Accepted.{AcceptedRecord};
 ghost use Rattle.hulling.specs.Blended.{Blended};
-ghost use Rattle.hulling.specs.Hulled.{blendRadii, ofBlended};
+ghost use Rattle.hulling.specs.BlendRadii.{parts, blendRadii};
+ghost use Rattle.hulling.specs.WithNext.{withNext};
+ghost use Rattle.hulling.specs.Hulled.{ofBlended};
 use align::Identifiers;
 use answers::Changed;
 use finish::Finished;
@@ -106,7 +106,7 @@ fn blend(
     let mut c = [0i64; 480];
     let mut g = [0i64; 288];
     let sum = align::tied(first, second, all, &mut e, &mut c, &mut g);
-    let difference = blending::subtract_centres(&first.centre, &second.centre);
+    let difference = align::wide::add_centres(&first.centre, -1, &second.centre);
     blending::blend_exponents(&e, first.terms + second.terms, all.count, f);
     blending::blend_numbers(&difference, &c, first.terms, second.terms, w);
     let mut centre = [0i64; 6];
@@ -135,7 +135,7 @@ fn blend_radii(
 // The generators' sizes and the radius of each coordinate.
 fn independent_parts(s: PolyZonotope) -> [u64; 6]
     requires { ⌜ AcceptedRecord s ⌝ }
-    ensures { λ r. ⌜ r ≡ tab 6 (spread (s .vectors) (s .generators) (s .radii)) ⌝ }
+    ensures { λ r. ⌜ r ≡ parts s ⌝ }
 {
     let vectors = s.vectors;
     let radii = s.radii;
@@ -145,7 +145,7 @@ fn independent_parts(s: PolyZonotope) -> [u64; 6]
 // The first `count` numbers, and `next` after them.
 fn with_next(numbers: &[u32; 24], count: usize, next: u32) -> [u32; 12]
     requires { ⌜ count < 12 ⌝ }
-    ensures { λ r. ⌜ r ≡ set (write (replicate 12 0) 0 (λ i. getD (now (numbers .entry)) i 0) count) count next ⌝ }
+    ensures { λ r. ⌜ r ≡ withNext (now (numbers .entry)) count next ⌝ }
 {
     let mut out = [0u32; 12];
     for i in 0..count {

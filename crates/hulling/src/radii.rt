@@ -1,16 +1,14 @@
 // The radii of a hull: the larger independent part of each coordinate, and half the count of inexact roundings, rounded up.
 ghost use mathlib.Core.Path.{_≡_};
 ghost use Prim.Native.Nat.{_+_, _/_, _≤_};
-ghost use lib.ListN.{getD};
-ghost use Rattle.whole.specs.Tab.{tab};
 ghost use Rattle.model.specs.Hull.{larger};
 ghost use Rattle.image.specs.Remainder.{Below};
-ghost use Rattle.hulling.specs.Radii.{hullRadius};
+ghost use Rattle.hulling.specs.Radii.{hullRadii};
 
 // Of the first n coordinates, from the independent parts p and q and the counts.
 pub fn hull_radii(p: &[u64; 6], q: &[u64; 6], counts: &[u64; 6], n: usize) -> [u64; 6]
     requires { ⌜ (n ≤ 6) × Below 1048576 (now p) × Below 1048576 (now q) × Below 4294967296 (now counts) ⌝ }
-    ensures { λ r. ⌜ r ≡ tab 6 (λ i. getD (tab n (hullRadius (now (p .entry)) (now (q .entry)) (now (counts .entry)))) i 0) ⌝ }
+    ensures { λ r. ⌜ r ≡ hullRadii n (now (p .entry)) (now (q .entry)) (now (counts .entry)) ⌝ }
 {
     let mut out = [0u64; 6];
     for i in 0..n {

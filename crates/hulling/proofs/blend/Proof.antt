@@ -2,10 +2,9 @@
 use mathlib.Core.Path.{_≡_, sym, ap, ap₂, subst, _∙_}
 use mathlib.Core.List.{List}
 use Prim.Native.Nat.{ℕ, _+_, _*_, _≤_}
-use lib.IntN.{ℤ, pos, _*ℤ_}
+use lib.IntN.{ℤ, pos}
 use lib.ListN.{replicate}
 use Rattle.whole.specs.Write.{write}
-use Rattle.model.specs.Set.{at}
 use Rattle.model.specs.Hull.{halved}
 use Rattle.rows.specs.Cells.{small-weaken}
 use Rattle.rows.specs.Rows.{rowsOf, Small}
@@ -14,14 +13,25 @@ use Rattle.zonotope.specs.Record.{view}
 use Rattle.align.specs.Examined.{counts}
 use Rattle.summing.specs.Summed.{work-space}
 use Rattle.finish.specs.Wide.{wideVector}
-use Rattle.hulling.specs.Blending.{half, blendLimit, numbers-small}
-use Rattle.hulling.specs.Blended.{blended-centre, blended-rows, difference-small, vector-small, halved-wide, halved-small}
+use Rattle.hulling.specs.WideTerms.{half}
+use Rattle.hulling.specs.Blending.{timesAt}
+use Rattle.hulling.specs.Sizes.{blendLimit, numbers-small, vector-small, halved-small}
+use Rattle.hulling.specs.Blended.{blended-centre, blended-rows, difference-small, halved-wide}
 use native.Mathlib.Omega.{arith}
 use borrow.Author.Needs.{needs}
 use Rattle.hulling.proofs.blend.Statement.{statement}
 use Rattle.hulling.proofs.blend.Tie as tie
 
--- where the sum is made
+-- where the numbers were written, the difference and the sum made, and the function began
+abbrev numbers-of : tie.After-centre → tie.After-blend-numbers
+numbers-of c = c .before .before .before .before .before
+
+abbrev difference-of : tie.After-blend-numbers-arg → tie.After-add-centres
+difference-of n = n .before .before .before .before .before .before .before .before
+
+abbrev sum-of : tie.After-add-centres → tie.After-tied
+sum-of d = d .before .before .before .before .before .before .before .before
+
 abbrev begun : tie.After-tied → tie.Start
 begun t = t .before .before .before .before .before
 
@@ -32,12 +42,14 @@ rest-few : (t : tie.After-tied) → begun t .args .t2 .terms ≤ 40
 rest-few t = counts _ (begun t .pre .1) .terms-few
 
 sum-small : (t : tie.After-tied) → Small 2097152 (t .tied .result .centre)
-sum-small t = rw (t .tied .ensures .centre) (vector-small (joined (view (begun t .args .t1)) (view (begun t .args .t2)) .centre) (t .tied .ensures .centre-small))
+sum-small t =
+    let m = joined (view (begun t .args .t1)) (view (begun t .args .t2)) .centre in
+    rw (t .tied .ensures .centre) (vector-small m (t .tied .ensures .centre-small))
 
-small-of : (d : tie.After-subtract-centres) → Small 2097152 (d .subtract-centres .result)
-small-of d =
-    let z = begun (d .before .before .before .before .before .before .before .before) in
-    rw (d .subtract-centres .ensures) (difference-small (z .args .t1) (z .args .t2) (z .pre .0) (z .pre .1))
+difference-is-small : (d : tie.After-add-centres) → Small 2097152 (d .add-centres .result)
+difference-is-small d =
+    let z = begun (sum-of d) in
+    rw (d .add-centres .ensures) (difference-small (z .args .t1) (z .args .t2) (z .pre .0) (z .pre .1))
 
 slice-aggregate-tied : tie.Need-slice-aggregate-tied
 slice-aggregate-tied c = search needs
@@ -52,19 +64,19 @@ tied-requires : tie.Need-tied-requires
 tied-requires c κs =
     let z = c .before .before .before .before in (z .pre .0, z .pre .1, z .pre .2, work-space)
 
-subtract-centres-requires : tie.Need-subtract-centres-requires
-subtract-centres-requires c κs = search needs
+add-centres-requires : tie.Need-add-centres-requires
+add-centres-requires c κs = search needs
 
 slice-aggregate-blend-exponents : tie.Need-slice-aggregate-blend-exponents
 slice-aggregate-blend-exponents c = search needs
 
 add-blend-exponents : tie.Need-add-blend-exponents
 add-blend-exponents c =
-    let t = c .before .before .before .before .before .before .before .before .before in omega (arith, own-few t, rest-few t)
+    let t = sum-of (c .before) in omega (arith, own-few t, rest-few t)
 
 blend-exponents-requires : tie.Need-blend-exponents-requires
 blend-exponents-requires c κs =
-    let t = c .before .before .before .before .before .before .before .before .before .before in (omega (arith, own-few t, rest-few t), search needs, search needs)
+    let t = sum-of (c .before .before) in (omega (arith, own-few t, rest-few t), search needs, search needs)
 
 slice-aggregate-blend-numbers : tie.Need-slice-aggregate-blend-numbers
 slice-aggregate-blend-numbers c = search needs
@@ -74,16 +86,23 @@ slice-aggregate-blend-numbers-2 c = search needs
 
 blend-numbers-requires : tie.Need-blend-numbers-requires
 blend-numbers-requires c κs =
-    let t = c .before .before .before .before .before .before .before .before .before .before .before .before .before .before .before .before in
-    let d = c .before .before .before .before .before .before .before .before in
-    (own-few t, rest-few t, search needs, search needs, search needs, small-of d, small-weaken (t .tied .ensures .terms .small) (omega arith))
+    let d = difference-of c in
+    let t = sum-of d in (
+      own-few t,
+      rest-few t,
+      search needs,
+      search needs,
+      search needs,
+      difference-is-small d,
+      small-weaken (t .tied .ensures .terms .small) (omega arith),
+    )
 
 slice-aggregate-put-halves : tie.Need-slice-aggregate-put-halves
 slice-aggregate-put-halves c = search needs
 
 put-halves-requires : tie.Need-put-halves-requires
 put-halves-requires c κs =
-    let t = c .before .before .before .before .before .before .before .before .before .before .before .before .before .before .before .before .before .before .before .before .before .before in
+    let t = sum-of (difference-of (numbers-of c .before)) in
     (omega arith, omega arith, omega arith, search needs, search needs, sum-small t, omega arith)
 
 same-length : tie.Need-same-length
@@ -95,24 +114,26 @@ same-length-2 c = search needs
 returns : tie.Need-returns
 returns c =
     let p = c .before in
-    let n = p .before .before .before .before .before .before in
+    let n = numbers-of (p .before) in
     let x = n .before .before .before .before .before .before in
-    let d = x .before .before .before in
-    let t = c .before .before .before .before .before .before .before .before .before .before .before .before .before .before .before .before .before .before .before .before .before .before .before .before in
+    let d = difference-of (n .before) in
+    let t = sum-of d in
     let z = begun t in
     let a = z .args in
     let m = joined (view (a .t1)) (view (a .t2)) .centre in
     let centre : p .put-halves .last .1 .1 .1 .1 .0 ≡ wideVector (halved m) =
     p .put-halves .ensures
-    ∙ ap (λ (v : List ℤ). write (replicate 6 (pos 0)) (0 * 6) (λ x. half *ℤ at v (0 * 6 + x)) (1 * 6)) (t .tied .ensures .centre)
-    ∙ halved-wide m (t .tied .ensures .centre-small) in record {
-      terms = λ next. ap₂ (λ (f : List ℕ) (w : List ℤ). rowsOf f w (1 + ((a .t1 .terms + a .t2 .terms) + (a .t1 .terms + a .t2 .terms))))
-          (x .blend-exponents .ensures) (n .blend-numbers .ensures)
+    ∙ ap (λ (v : List ℤ). write (replicate 6 (pos 0)) (0 * 6) (timesAt half v 0) (1 * 6)) (t .tied .ensures .centre)
+    ∙ halved-wide m in
+    let rows = a .t1 .terms + a .t2 .terms in record {
+      few = omega (arith, own-few t, rest-few t);
+      terms = λ next.
+          ap₂ (λ (f : List ℕ) (w : List ℤ). rowsOf f w (1 + (rows + rows))) (x .blend-exponents .ensures) (n .blend-numbers .ensures)
           ∙ blended-rows (a .t1) (a .t2) (z .pre .0) (z .pre .1) (a .all) (z .pre .2) (t .tied .ensures .terms) (a .f .now) (a .w .now)
-          (d .subtract-centres .result) (z .pre .3) (z .pre .4) (d .subtract-centres .ensures) next;
+          (d .add-centres .result) (z .pre .3) (z .pre .4) (d .add-centres .ensures) next;
       centre-is = λ next. centre ∙ ap wideVector (sym (blended-centre next (view (a .t1)) (view (a .t2))));
       numbers-small = subst (Small blendLimit) (sym (n .blend-numbers .ensures))
-          (numbers-small (d .subtract-centres .result) _ (a .w .now) (a .t1 .terms) (a .t2 .terms) (small-of d)
+          (numbers-small (d .add-centres .result) _ (a .w .now) (a .t1 .terms) (a .t2 .terms) (difference-is-small d)
           (small-weaken (t .tied .ensures .terms .small) (omega arith)) (small-weaken (z .pre .5) (omega arith)));
       centre-small = subst (Small blendLimit) (sym centre) (halved-small m (t .tied .ensures .centre-small));
     }
@@ -125,7 +146,7 @@ blend-spec =
     slice-aggregate-tied-2
     slice-aggregate-tied-3
     tied-requires
-    subtract-centres-requires
+    add-centres-requires
     slice-aggregate-blend-exponents
     add-blend-exponents
     blend-exponents-requires

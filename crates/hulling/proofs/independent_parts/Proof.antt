@@ -1,7 +1,7 @@
 -- `hulling::independent_parts` meets its contract.
 use Rattle.raw.specs.Unused.{counts-in}
 use Rattle.image.specs.Radii.{generators-room}
-use Rattle.hulling.specs.Hulled.{for-parts}
+use Rattle.hulling.specs.BlendRadii.{for-parts}
 use native.Mathlib.Omega.{arith}
 use borrow.Author.Needs.{needs}
 use Rattle.hulling.proofs.independent_parts.Statement.{statement}
@@ -13,7 +13,7 @@ slice-aggregate-spreads c = search needs
 spreads-requires : tie.Need-spreads-requires
 spreads-requires c κs =
     let z = c .before .before .before .before in
-    let ok = for-parts (z .pre) in
+    let ok = for-parts (z .args .s) (z .pre) in
     let few = counts-in (z .args .s) ok .3 in
     (omega arith, omega arith, generators-room (z .args .s) ok)
 

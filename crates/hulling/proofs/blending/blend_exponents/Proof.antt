@@ -1,5 +1,4 @@
 -- `blending::blend_exponents` meets its contract: the runs one after the other.
-use native.Mathlib.Omega.{arith}
 use borrow.Author.Needs.{needs}
 use mathlib.Core.Path.{ap, _∙_}
 use mathlib.Core.List.{List}
@@ -36,7 +35,8 @@ returns c =
     let r = s .rows * 12 in
     third .put-exponents3 .ensures
     ∙ ap (λ (f : List ℕ). write f ((s .rows + 1) * 12) (powerAt (s .e .now) (s .n) 1) r)
-    (second .put-exponents2 .ensures ∙ ap (λ (f : List ℕ). write f (1 * 12) (powerAt (s .e .now) (s .n) 0) r) (first .put-exponents .ensures))
+    (second .put-exponents2 .ensures
+    ∙ ap (λ (f : List ℕ). write f (1 * 12) (powerAt (s .e .now) (s .n) 0) r) (first .put-exponents .ensures))
 
 pub blend-exponents-spec : {M : Type 1} → statement M
 blend-exponents-spec =

@@ -1,13 +1,12 @@
 -- `blending::blend_numbers` meets its contract: the runs one after the other.
-use native.Mathlib.Omega.{arith}
 use borrow.Author.Needs.{needs}
 use mathlib.Core.Path.{ap, _∙_}
 use mathlib.Core.List.{List}
 use Prim.Native.Nat.{_+_, _*_}
-use lib.IntN.{ℤ, _*ℤ_}
+use lib.IntN.{ℤ}
 use Rattle.whole.specs.Write.{write}
-use Rattle.model.specs.Set.{at}
-use Rattle.hulling.specs.Blending.{half, turnedHalf}
+use Rattle.hulling.specs.WideTerms.{half, turnedHalf}
+use Rattle.hulling.specs.Blending.{timesAt}
 use Rattle.hulling.proofs.blending.blend_numbers.Statement.{statement}
 use Rattle.hulling.proofs.blending.blend_numbers.Tie as tie
 
@@ -46,11 +45,11 @@ returns c =
     let first = second .before .before .before in
     let s = first .before .before .args in
     fourth .put-halves4 .ensures
-    ∙ ap (λ (w : List ℤ). write w ((s .own + s .rest + 1 + s .own) * 6) (λ x. turnedHalf *ℤ at (s .c .now) (s .own * 6 + x)) (s .rest * 6))
+    ∙ ap (λ (w : List ℤ). write w ((s .own + s .rest + 1 + s .own) * 6) (timesAt turnedHalf (s .c .now) (s .own)) (s .rest * 6))
     (third .put-halves3 .ensures
-    ∙ ap (λ (w : List ℤ). write w ((s .own + s .rest + 1) * 6) (λ x. half *ℤ at (s .c .now) (0 * 6 + x)) (s .own * 6))
+    ∙ ap (λ (w : List ℤ). write w ((s .own + s .rest + 1) * 6) (timesAt half (s .c .now) 0) (s .own * 6))
     (second .put-halves2 .ensures
-    ∙ ap (λ (w : List ℤ). write w (1 * 6) (λ x. half *ℤ at (s .c .now) (0 * 6 + x)) ((s .own + s .rest) * 6)) (first .put-halves .ensures)))
+    ∙ ap (λ (w : List ℤ). write w (1 * 6) (timesAt half (s .c .now) 0) ((s .own + s .rest) * 6)) (first .put-halves .ensures)))
 
 pub blend-numbers-spec : {M : Type 1} → statement M
 blend-numbers-spec =

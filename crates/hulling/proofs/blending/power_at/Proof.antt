@@ -1,5 +1,4 @@
 -- `blending::power_at` meets its contract.
-use native.Mathlib.Omega.{arith}
 use borrow.Author.Needs.{needs}
 use borrow.Author.Tests.{eq-eqb, ne-eqb}
 use Rattle.hulling.proofs.blending.power_at.Statement.{statement}

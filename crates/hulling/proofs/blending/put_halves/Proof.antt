@@ -12,11 +12,12 @@ use Rattle.whole.specs.Write.{write, write-none, write-again}
 use mir.Syntax.{w64}
 use mir.Val.{ofZ, toZ}
 use Rattle.model.specs.Set as Set
+use Rattle.hulling.specs.Blending.{timesAt}
 use Rattle.hulling.proofs.blending.put_halves.Statement.{statement}
 use Rattle.hulling.proofs.blending.put_halves.Tie as tie
 
 abbrev Inv-loop : tie.InvT-loop
-Inv-loop c from rows half w₀ to x₀ x-end w x = (x ≤ rows * 6) × (w ≡ write w₀ (to * 6) (λ y. toZ w64 half *ℤ Set.at c (from * 6 + y)) x)
+Inv-loop c from rows half w₀ to x₀ x-end w x = (x ≤ rows * 6) × (w ≡ write w₀ (to * 6) (timesAt (toZ w64 half) c from) x)
     × (length w ≡ length w₀) × (x-end ≡ rows * 6)
 
 abbrev μ-loop : tie.MeasureT-loop
@@ -28,8 +29,8 @@ half-is z = read64 (z .args .half) (omega (arith, z .pre .6))
 
 v-is : (c : tie.After-v Inv-loop μ-loop) →
     let l = c .before .before in
-    let z = l .before in
-    toZ w64 (ofZ w64 (Set.at (z .args .c .now) (z .args .from * 6 + l .loop .x))) ≡ Set.at (z .args .c .now) (z .args .from * 6 + l .loop .x)
+    let v = Set.at (l .before .args .c .now) (l .before .args .from * 6 + l .loop .x) in
+    toZ w64 (ofZ w64 v) ≡ v
 v-is c = read64 _ (c .v .given)
 
 mul-x-end : tie.Need-mul-x-end Inv-loop μ-loop
@@ -85,7 +86,12 @@ loop-again c =
     let at = c .before .before .before in
     let l = at .loop in (
       omega arith,
-      write-again _ _ _ (l .w) (l .x) _ (l .inv .1) (got64 (c .multiply-add .ensures ∙ monoidℤ .zero-add _ ∙ ap (toZ w64 (ofZ w64 (at .before .args .half)) *ℤ_) (v-is (c .before))) (c .multiply-add .ok)),
+      write-again _ _ _ (l .w) (l .x) _ (l .inv .1)
+          (got64
+          (c .multiply-add .ensures
+          ∙ monoidℤ .zero-add _
+          ∙ ap (toZ w64 (ofZ w64 (at .before .args .half)) *ℤ_) (v-is (c .before)))
+          (c .multiply-add .ok)),
       simp length-set (l .inv .2),
       l .inv .3,
     )
@@ -100,7 +106,7 @@ returns c =
     let z = at .before in
     at .loop .inv .1
     ∙ ap (write _ _ _) e
-    ∙ ap (λ (h : ℤ). write (z .args .w .now) (z .args .to * 6) (λ y. h *ℤ Set.at (z .args .c .now) (z .args .from * 6 + y)) (z .args .rows * 6))
+    ∙ ap (λ (h : ℤ). write (z .args .w .now) (z .args .to * 6) (timesAt h (z .args .c .now) (z .args .from)) (z .args .rows * 6))
     (half-is z)
 
 pub put-halves-spec : {M : Type 1} → statement M

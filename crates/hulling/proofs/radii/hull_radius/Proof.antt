@@ -1,5 +1,4 @@
 -- `radii::hull_radius` meets its contract.
-use native.Mathlib.Omega.{arith}
 use borrow.Author.Needs.{needs}
 use borrow.Author.Tests.{lt-ltb, le-ltb}
 use Rattle.hulling.proofs.radii.hull_radius.Statement.{statement}
