@@ -37,8 +37,8 @@ use Rattle.states.specs.Answer.{parts, noBox, answerOf}
 use Rattle.advance.specs.declared.Advanced.{Advanced}
 use Rattle.advance.specs.Running.{Running, current-is}
 use Rattle.advance.specs.Advanced.{isStep, Used, workedBy, kindAdvanced}
-use Rattle.advance.specs.Kinds.{acceptedAs, refusedAs, judgedAs, concludedBy, concluded, Plain, plain-start, Boxed, start-alone, not-last}
-use Rattle.advance.specs.Kinds.{box-advanced, box-limits, cause-is, changed-limits, changed-advanced}
+use Rattle.advance.specs.Kinds.{acceptedAs, refusedAs, judgedAs, concludedBy, concluded, Plain, plain-start, Boxed, start-alone}
+use Rattle.advance.specs.Kinds.{not-last, box-advanced, box-limits, cause-is, changed-limits, changed-advanced}
 use Rattle.advance.specs.ConclusionLaws.{concluded-as}
 
 -- ---- a start set
@@ -101,7 +101,8 @@ not-used was d n xs = record { untouched = λ q. refl; kept = record { place = �
 module _ (st : State) (run : Running st) (h : 0 < st .count) (k : Kind) (b : List ℕ) {r : Changed}
     (from : r ≡ answered (bodyRefusal k b (st .next) (view (st .set))) (st .set) (resultOf k b (st .next) (view (st .set)))) where
   -- by the current set
-  pub fresh-answered : r ≡ answered (bodyRefusal k b (st .next) (current (viewed st))) (st .set) (resultOf k b (st .next) (current (viewed st)))
+  pub fresh-answered : r ≡ answered (bodyRefusal k b (st .next) (current (viewed st))) (st .set)
+      (resultOf k b (st .next) (current (viewed st)))
   fresh-answered =
       from ∙ ap (λ (u : Zonotope). answered (bodyRefusal k b (st .next) u) (st .set) (resultOf k b (st .next) u)) (sym (current-is st h))
 

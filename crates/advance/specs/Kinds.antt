@@ -176,7 +176,8 @@ module _ (st : State) (run : Running st) where
         (view-pack (m .result) (h .shaped) counts, countable (m .result) counts)
 
     -- a field that answers with a box, and the set that the call gave
-    pub box-advanced : (place bytes : ℕ) (s : PolyZonotope) {r : Changed} → Boxed k b (st .next) (current (viewed st)) → r ≡ answered cause s (m .result)
+    pub box-advanced : (place bytes : ℕ) (s : PolyZonotope) {r : Changed} → Boxed k b (st .next) (current (viewed st))
+        → r ≡ answered cause s (m .result)
         → concluded st place bytes (m .next) r (isStep k && worked cause) ≡ kindAdvanced place st k b bytes
     unfolding kindAdvanced left answerOf
     box-advanced place bytes s {r} e p =
@@ -221,7 +222,8 @@ module _ (st : State) (run : Running st) where
       pub changed-advanced : (place bytes : ℕ) {w : Bool} → w ≡ (isStep k && worked cause) → {a : Advanced}
           → a ≡ concluded st place bytes (st .next) r w → a ≡ kindAdvanced place st k b bytes
       changed-advanced place bytes q p =
-          p ∙ ap₂ (λ n w. concluded st place bytes n r w) (sym (opened .2)) q ∙ box-advanced place bytes s (plain-boxed plain b (st .next) (current (viewed st))) answered-is
+          p ∙ ap₂ (λ n w. concluded st place bytes n r w) (sym (opened .2)) q
+          ∙ box-advanced place bytes s (plain-boxed plain b (st .next) (current (viewed st))) answered-is
 
 -- ---- a field whose header passed, in a run that isn't over
 module _ (st : State) (f : List ℕ) (on : st .over ≡ false) (header : firstOf (ofHeader (st .count) f) ≡ none) where

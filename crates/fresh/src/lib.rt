@@ -1,4 +1,4 @@
-// Whether identifiers from the next one on are fresh for a set. A part of `sums` and of `run`.
+// Whether identifiers from the next one on are fresh for a set. A part of `sums`, of `hull` and of `run`.
 ghost use mathlib.Core.Path.{_≡_};
 ghost use mathlib.Core.Bool.{not, _||_};
 ghost use Prim.Native.Nat.{_≤_};

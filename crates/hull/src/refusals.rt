@@ -8,7 +8,8 @@ ghost use Rattle.hull.specs.Causes.{ofBlend};
 use zonotope::Examined;
 use zonotope::PolyZonotope;
 
-// The first cause that refuses a hull before its factors are looked at: the two sets, then a next identifier that isn't above those of both.
+// The first cause that refuses a hull before its factors are looked at: the two sets, then a next identifier that isn't above both
+// sets' identifiers.
 pub fn before_hulling(first: PolyZonotope, second: PolyZonotope, next: u32) -> Examined
     ensures { λ r. ⌜ r ≡ examined (orElse (beforeSumming (given first) (given second)) (ofBlend next (view first) (view second))) ⌝ }
     ensures sized { λ r. ⌜ (r ≡ Examined.Accepted → Sized first × Sized second) ⌝ }

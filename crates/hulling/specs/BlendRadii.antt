@@ -7,9 +7,9 @@ use lib.ListN.{length, getD, replicate}
 use lib.IntN.{ℤ, pos}
 use Rattle.whole.specs.Round.{scale}
 use Rattle.whole.specs.Tab.{tab, tab-cong, getD-tab}
-use Rattle.model.specs.Set.{Zonotope}
+use Rattle.model.specs.Set.{Zonotope, independentSize}
 use Rattle.model.specs.Step.{rounded, roundedRadius, inexactAt}
-use Rattle.model.specs.Hull.{larger, independentPart, blended}
+use Rattle.model.specs.Hull.{larger, blended}
 use Rattle.zonotope.specs.declared.PolyZonotope.{PolyZonotope}
 use Rattle.zonotope.specs.Record.{view}
 use Rattle.zonotope.specs.Counts.{countable}
@@ -55,7 +55,7 @@ module _ (s : PolyZonotope) (ok : AcceptedRecord s) where
   pub parts-below : Below 1048576 (parts s)
   parts-below = independent-below s for-parts
 
-  part-at : (i : ℕ) → i < 6 → getD (parts s) i 0 ≡ independentPart (view s) i
+  part-at : (i : ℕ) → i < 6 → getD (parts s) i 0 ≡ independentSize (view s) i
   part-at i l = getD-tab 6 (spread (s .vectors) (s .generators) (s .radii)) 0 i l ∙ independent-are s for-parts i l
 
 -- ---- the counts
@@ -95,7 +95,7 @@ module _ (a b : PolyZonotope) (h : Summable a b) (next : ℕ) {f : List ℕ} {w 
         ap₂ _+_
         (ap₂ larger (part-at a (h .first) i l) (part-at b (h .second) i l)
         ∙ sym (ap (λ (n : ℕ). (n + 16777215) / scale) (getD-tab (a .dimension) _ 0 i m)
-        ∙ whole (larger (independentPart (view a) i) (independentPart (view b) i))))
+        ∙ whole (larger (independentSize (view a) i) (independentSize (view b) i))))
         (ap (λ (n : ℕ). (n + 1) / 2) (count-at i l))
       where
         whole : (n : ℕ) → (scale * n + 16777215) / scale ≡ n

@@ -7,8 +7,8 @@ use native.Mathlib.Omega.{arith}
 use Rattle.model.specs.Set.{Zonotope}
 use Rattle.model.specs.Operations.{Box, box, safe}
 use Rattle.model.specs.Body.{givenHalfspaces}
-use Rattle.model.specs.Field.{Kind, start, step, disturbance, independent, tied, reduction, check, hull, unknown, inside, verdict, skipped}
-use Rattle.model.specs.Field.{Meaning, meaning}
+use Rattle.model.specs.Field.{Kind, start, step, disturbance, independent, tied, reduction, check, hull, unknown}
+use Rattle.model.specs.Field.{inside, verdict, skipped, Meaning, meaning}
 
 -- the box of its result, a verdict, or, where the kind is unknown, nothing
 pub data Answers (k : Kind) (m : Meaning) : Type 0 where

@@ -16,7 +16,8 @@ use Rattle.model.specs.Field.{Kind, start, step, disturbance, independen
 use Rattle.model.specs.Field.{meaning, badDimension}
 use Rattle.model.proofs.Tests.{or-false}
 use Rattle.model.proofs.Shape.{Valid, counted, ranged}
-use Rattle.model.proofs.Held.{Held, held, held-up, valid-ready, reduce-held, step-held, sum-held, independent-held, hull-held, disturb-held}
+use Rattle.model.proofs.Held.{Held, held, held-up, valid-ready, reduce-held, step-held, sum-held, independent-held, disturb-held}
+use Rattle.model.proofs.Held.{hull-held}
 use Rattle.model.proofs.Accepted.{Passed, dimension-in, same, given-dimension, given-factors, given-valid, given-radii}
 
 -- ---- what an accepted field's body says, by kinds
@@ -123,8 +124,8 @@ leaves independent b next s l h p =
 leaves hull b next s l h p =
     let v = body-valid b next s hull p in
     record {
-      holds = hull-held standardWeights (h refl) (omega arith) (valid-ready v) (given-dimension b ∙ dimension-same b next s hull p) (file-in l v)
-          (p .factors) (p .result-width);
+      holds = hull-held standardWeights (h refl) (omega arith) (valid-ready v) (given-dimension b ∙ dimension-same b next s hull p)
+          (file-in l v) (p .factors) (p .result-width);
       no-less = omega arith;
       at-most = omega arith;
     }

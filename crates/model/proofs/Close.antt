@@ -16,8 +16,8 @@ use Rattle.rational.specs.Bounds.{within-neg}
 use Rattle.rational.specs.Near.{Near, near-refl, near-trans, near-as}
 use Rattle.rational.specs.Sum.{none}
 use Rattle.model.specs.Limits.{maxTerms, maxGenerators}
-use Rattle.model.specs.Set.{Zonotope, at, radius, termSizes, generatorSizes}
-use Rattle.model.specs.Step.{Step, quadraticAt, slope, independentSize, remainder, rawLinear, raw, inexactAt, roundedRadius, rounded}
+use Rattle.model.specs.Set.{Zonotope, at, radius, termSizes, generatorSizes, independentSize}
+use Rattle.model.specs.Step.{Step, quadraticAt, slope, remainder, rawLinear, raw, inexactAt, roundedRadius, rounded}
 use Rattle.model.specs.Step.{step}
 use Rattle.model.specs.Points.{Vector, valueAt, Point, InRange}
 use Rattle.model.specs.Motion.{image}
@@ -85,7 +85,7 @@ upto-zero : (f : ℕ → ℕ) (n : ℕ) → ((j : ℕ) → f j ≡ 0) → upto�
 upto-zero f n h = omega (arith, upto-bound f 0 n (λ j _. omega (arith, h j)))
 
 module _ (p : Step) (s : Zonotope) (no-generators : s .generators ≡ []) (no-radii : (j : ℕ) → radius s j ≡ 0) where
-  no-independent : (j : ℕ) → independentSize p s j ≡ 0
+  no-independent : (j : ℕ) → independentSize s j ≡ 0
   unfolding generatorSizes sumBy
   no-independent j = ap₂ _+_ (ap (sumℕ (λ g. natAbs (at g j))) no-generators) (no-radii j)
 

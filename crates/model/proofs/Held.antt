@@ -164,7 +164,9 @@ hull-held weights {next} {s} {u} h some r e i few w = finish-held weights (omega
   ready = rounded-ready (blended-ready (held-ready h) r e (All-imp (λ k p. p .1) (h .identifiers-in)) (All-imp (λ k p. p .1) i));
   dimension-some = h .counts .dimension-some;
   dimension-few = h .counts .dimension-few;
-  factors-few = omega (arith, length-append (union (s .identifiers) (u .identifiers)) (next ∷ []), ltb-false maxFactors (length (union (s .identifiers) (u .identifiers)) + 1) few);
+  factors-few =
+      let ms = union (s .identifiers) (u .identifiers) in
+      omega (arith, length-append ms (next ∷ []), ltb-false maxFactors (length ms + 1) few);
   identifiers-in = All-++ (All-imp (λ k p. (p .0, omega arith)) (union-all (h .identifiers-in) i)) (more (some, omega arith) none);
 }) w
 

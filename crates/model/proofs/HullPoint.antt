@@ -11,7 +11,8 @@ use lib.IntN.{ℤ, pos, negℤ, _*ℤ_}
 use Rattle.whole.specs.Round.{scale}
 use Rattle.whole.specs.Tab.{getD-tab}
 use Rattle.rational.specs.Rational.{ℚ, _+ℚ_, _*ℚ_, negℚ, ι, ½, 0ℚ, 1ℚ, NonNeg, _≤ℚ_}
-use Rattle.rational.specs.Ring.{ring, +ℚ-assoc, *ℚ-assoc, one-*ℚ, *ℚ-one, half-twice, +ℚ-neg, +ℚ-comm, +ℚ-zero, zero-*ℚ, negℚ-negℚ, negℚ-*, *ℚ-negℚ}
+use Rattle.rational.specs.Ring.{ring, +ℚ-assoc, *ℚ-assoc, one-*ℚ, *ℚ-one, half-twice, +ℚ-neg, +ℚ-comm, +ℚ-zero, zero-*ℚ, negℚ-negℚ}
+use Rattle.rational.specs.Ring.{negℚ-*, *ℚ-negℚ}
 use Rattle.rational.specs.Pinned.{ι-+, ι-*, ι-neg}
 use Rattle.rational.specs.Power.{power}
 use Rattle.rational.specs.Sign.{NonNeg-*, NonNeg-ι, NonNeg-½}
@@ -21,12 +22,12 @@ use Rattle.rational.specs.Near.{Near, near-as}
 use Rattle.rational.specs.Sum as Sum
 use Rattle.rational.specs.Sum.{sum, sum-*, sum-map, sum-cong, sum-congAll, All, All-imp, All-++}
 use Rattle.model.specs.Limits.{maxTerms, maxGenerators}
-use Rattle.model.specs.Set.{Term, Zonotope, at, generatorSizes}
+use Rattle.model.specs.Set.{Term, Zonotope, at, generatorSizes, independentSize}
 use Rattle.model.specs.Valid.{rises}
 use Rattle.model.specs.Operations.{union, align, aligned, joined}
 use Rattle.model.specs.Motion.{between, withFresh}
 use Rattle.model.specs.Between.{HullBetween, HullEnds}
-use Rattle.model.specs.Hull.{halved, blend, opposite, larger, independentPart, blended, hull}
+use Rattle.model.specs.Hull.{halved, blend, opposite, larger, blended, hull}
 use Rattle.model.specs.Step.{rounded}
 use Rattle.model.specs.Points.{Vector, monomial, termsAt, generatorsAt, valueAt, Point, InRange}
 use Rattle.model.proofs.Parts.{spread, generators-spread, convex}
@@ -121,7 +122,7 @@ opposite-main u γ i =
 
 -- ---- a point, as the centre and terms and an offset within the independent part
 independent-near : {s : Zonotope} {α x : Vector} → Point s α x → (i : ℕ) → i < s .dimension
-    → Near (x i) (ι (at (s .centre) i) +ℚ termsAt α (s .identifiers) (s .terms) i) (ι (pos (independentPart s i)))
+    → Near (x i) (ι (at (s .centre) i) +ℚ termsAt α (s .identifiers) (s .terms) i) (ι (pos (independentSize s i)))
 unfolding valueAt generatorSizes spread
 independent-near {s} {α} p i h =
     let n = p .near i h in
@@ -188,18 +189,18 @@ module _ (next : ℕ) (s u : Zonotope) (γ : Vector) (rising : rises ltb (s .ide
       near-by : (i : ℕ) → i < s .dimension
           → Near (ι (pos scale) *ℚ (½ *ℚ ((1ℚ +ℚ v) *ℚ x i +ℚ (1ℚ +ℚ negℚ v) *ℚ y i)))
           (H *ℚ ((1ℚ +ℚ v) *ℚ mainAt s γ i +ℚ (1ℚ +ℚ negℚ v) *ℚ mainAt u γ i))
-          (ι (pos (scale * larger (independentPart s i) (independentPart u i))))
+          (ι (pos (scale * larger (independentSize s i) (independentSize u i))))
       near-by i h =
           let n₁ = independent-near p i h in
           let n₂ = independent-near q i (omega arith) in
-          let R = larger (independentPart s i) (independentPart u i) in
+          let R = larger (independentSize s i) (independentSize u i) in
           let d₁ = n₁ .off in
           let d₂ = n₂ .off in record {
             off = ι (pos scale) *ℚ (½ *ℚ (1ℚ +ℚ v) *ℚ d₁ +ℚ ½ *ℚ (1ℚ +ℚ negℚ v) *ℚ d₂);
             small = subst (Within (ι (pos scale) *ℚ (½ *ℚ (1ℚ +ℚ v) *ℚ d₁ +ℚ ½ *ℚ (1ℚ +ℚ negℚ v) *ℚ d₂))) (sym (ι-*ℕ scale R))
                 (within-* (within-NonNeg (NonNeg-ι scale) (≤ℚ-refl (ι (pos scale))))
-                (convex (within-mono (n₁ .small) (ι-mono (larger-left (independentPart s i) (independentPart u i))))
-                (within-mono (n₂ .small) (ι-mono (larger-right (independentPart s i) (independentPart u i)))) (NonNeg-* NonNeg-½ more-than)
+                (convex (within-mono (n₁ .small) (ι-mono (larger-left (independentSize s i) (independentSize u i))))
+                (within-mono (n₂ .small) (ι-mono (larger-right (independentSize s i) (independentSize u i)))) (NonNeg-* NonNeg-½ more-than)
                 (NonNeg-* NonNeg-½ (gap (w .hi))) together));
             is = ap₂ (λ (a b : ℚ). ι (pos scale) *ℚ (½ *ℚ ((1ℚ +ℚ v) *ℚ a +ℚ (1ℚ +ℚ negℚ v) *ℚ b))) (n₁ .is) (n₂ .is)
                 ∙ apart (ι (pos scale)) ½ (1ℚ +ℚ v) (1ℚ +ℚ negℚ v) (mainAt s γ i) d₁ (mainAt u γ i) d₂

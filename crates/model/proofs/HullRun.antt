@@ -1,5 +1,5 @@
--- Runs with hulls, computed from their bytes: halves that are rounded, factors of both sets and of one alone, the larger independent part of each
--- coordinate, a blending factor that vanishes while its number stays taken, and each number that refuses a hull.
+-- Runs with hulls, computed from their bytes: halves that are rounded, factors of both sets and of one alone, the larger independent part of
+-- each coordinate, a blending factor that vanishes while its number stays taken, and each number that refuses a hull.
 use mathlib.Core.Path.{_≡_, refl}
 use mathlib.Core.List.{List, [], _∷_, _++_}
 use mathlib.Core.Bool.{cond, false}
@@ -19,8 +19,8 @@ use Rattle.model.specs.Finish.{insert, collectInto, those, shift, growth
 use Rattle.model.specs.Finish.{foldTimes, keepAt, collectTerms, dropZeroTerms, dropZeroGenerators, foldHigh, foldTerms}
 use Rattle.model.specs.Finish.{foldGenerators, dropUnused, finish}
 use Rattle.model.specs.Step.{inexactAt, roundedRadius, rounded}
-use Rattle.model.specs.Operations.{insertIdentifier, union, align, joined, tiedSum, renumbered, independentSum, least, greatest, lowEnd}
-use Rattle.model.specs.Operations.{highEnd, box}
+use Rattle.model.specs.Operations.{insertIdentifier, union, align, joined, tiedSum, renumbered, independentSum, least, greatest}
+use Rattle.model.specs.Operations.{lowEnd, highEnd, box}
 use Rattle.model.specs.Hull.{opposite, blended, hull}
 use Rattle.model.specs.Bytes.{number, word}
 use Rattle.model.specs.Body.{givenSet}
@@ -52,8 +52,8 @@ boxed n low₁ high₁ low₂ high₂ = record { field = n; outcome = inside (re
 abbrev term : List ℕ → ℤ → ℤ → Term
 term e g h = record { exponents = e; coefficients = two g h }
 
--- with v the blending factor: 101 + v + γ + 3β + 3βv + 24α + 17αv ± 11 and -49 + γv + 2β + 2βv + α - 3αv ± 10. Of the first coordinate 8 halves
--- are rounded and the independent parts are 7 and 5, of the second 6 with 3 and 7
+-- with v the blending factor: 101 + v + γ + 3β + 3βv + 24α + 17αv ± 11 and -49 + γv + 2β + 2βv + α - 3αv ± 10. Of the first coordinate 8
+-- halves are rounded and the independent parts are 7 and 5, of the second 6 with 3 and 7
 abbrev left : State
 left = record {
   set = some (record {
@@ -81,10 +81,10 @@ pub two-outcomes :
     ≡ boxed 0 (pos 49) (pos 153) (negsuc 57) (negsuc 41) ∷ boxed 1 (pos 41) (pos 161) (negsuc 67) (negsuc 29) ∷ [])
     × (run (fields (started ++ hulled)) begin ≡ left)
 unfolding answers outcome after run causes firstOf misplaced cut kindOf fields fieldsWithin meaning number word givenSet badRange badOrder
-    tooWide span termSizes generatorSizes rises order sumBy uptoBy tab any all hull blended opposite rounded inexactAt roundedRadius round exact
-    inexact joined union insertIdentifier align finish dropUnused foldGenerators foldTerms foldHigh dropZeroGenerators dropZeroTerms
-    collectTerms insert collectInto those foldAll foldVector shift growth foldTimes foldSmallest smallest size keepAt longer even half halfSize
-    box lowEnd highEnd least greatest
+    tooWide span termSizes generatorSizes rises order sumBy uptoBy tab any all hull blended opposite rounded inexactAt roundedRadius round
+    exact inexact joined union insertIdentifier align finish dropUnused foldGenerators foldTerms foldHigh dropZeroGenerators dropZeroTerms
+    collectTerms insert collectInto those foldAll foldVector shift growth foldTimes foldSmallest smallest size keepAt longer even half
+    halfSize box lowEnd highEnd least greatest
 two-outcomes = (refl, refl)
 
 -- ---- a hull that changes nothing
@@ -108,7 +108,7 @@ lineOf next g = record {
   over = false;
 }
 
--- the hull of 4α with itself is 4α again; the blending factor took the number 65,536 all the same, so that the sum after it gives the next one
+-- the hull of 4α with itself is 4α again; the blending factor took the number 65,536 all the same: the sum after it gives the next one
 pub number-taken :
     run (fields (line 1 1 (pos 4) ++ line 8 1 (pos 4) ++ line 4 1 (pos 1))) begin
     ≡ record {
@@ -116,7 +116,9 @@ pub number-taken :
         dimension = 1;
         identifiers = 1 ∷ 65537 ∷ [];
         centre = pos 0 ∷ [];
-        terms = record { exponents = 0 ∷ 1 ∷ []; coefficients = pos 1 ∷ [] } ∷ record { exponents = 1 ∷ 0 ∷ []; coefficients = pos 4 ∷ [] } ∷ [];
+        terms = record { exponents = 0 ∷ 1 ∷ []; coefficients = pos 1 ∷ [] }
+            ∷ record { exponents = 1 ∷ 0 ∷ []; coefficients = pos 4 ∷ [] }
+            ∷ [];
         generators = [];
         radii = 0 ∷ [];
       });
@@ -124,14 +126,18 @@ pub number-taken :
       count = 3;
       over = false;
     }
-unfolding after run causes firstOf misplaced cut kindOf fields fieldsWithin meaning number word givenSet badRange badOrder
-    tooWide span termSizes generatorSizes rises order sumBy uptoBy tab any all hull blended opposite rounded inexactAt roundedRadius round exact
+unfolding after run causes firstOf misplaced cut kindOf fields fieldsWithin meaning number word givenSet badRange badOrder tooWide span
+    termSizes generatorSizes rises order sumBy uptoBy tab any all hull blended opposite rounded inexactAt roundedRadius round exact
     inexact independentSum tiedSum renumbered joined union insertIdentifier align finish dropUnused foldGenerators foldTerms foldHigh
-    dropZeroGenerators dropZeroTerms collectTerms insert collectInto those foldAll foldVector shift growth foldTimes foldSmallest smallest size
-    keepAt longer even half halfSize
+    dropZeroGenerators dropZeroTerms collectTerms insert collectInto those foldAll foldVector shift growth foldTimes foldSmallest smallest
+    size keepAt longer even half halfSize
 number-taken = refl
 
 -- ---- refusals
+-- the point 0 in two coordinates
+abbrev origin : List ℕ
+origin = field 8 ((2 ∷ 0 ∷ 0 ∷ 0 ∷ []) ++ words (two (pos 0) (pos 0)) ++ words (two (pos 0) (pos 0)))
+
 -- n factors from k on and their sum
 abbrev factors : ℕ → ℕ → List ℕ
 factors p zero = []
@@ -144,22 +150,22 @@ numbered k (suc n) = bytes 4 k ++ numbered (suc k) n
 abbrev many : ℕ → ℕ → List ℕ
 many k n = field 8 ((1 ∷ n ∷ n ∷ 0 ∷ []) ++ numbered k n ++ words (pos 0 ∷ []) ++ factors n n ++ words (pos 0 ∷ []))
 
--- 1 cut short, 2 as the first field, 3 and 4 the body's length and counts, 5 dimension, 6 radius, 7 zero term, 8 width, 9 eleven factors and the
--- blending factor but not twelve, 10 a span that the rounding of two halves widens beyond the limit
+-- 1 cut short, 2 as the first field, 3 and 4 the body's length and counts, 5 dimension, 6 radius, 7 zero term, 8 width, 9 with twelve factors
+-- and the blending factor but not with eleven, 10 a span that the rounding of two halves widens beyond the limit
 pub hull-causes :
     (refusal (lineOf firstFresh (pos 1)) (8 ∷ 1 ∷ 0 ∷ []) ≡ some 1)
     × (refusal begin (line 8 1 (pos 1)) ≡ some 2)
     × (refusal (lineOf firstFresh (pos 1)) (field 8 (1 ∷ 0 ∷ 0 ∷ 0 ∷ [])) ≡ some 3)
     × (refusal (lineOf firstFresh (pos 1)) (field 8 (1 ∷ 13 ∷ 0 ∷ 0 ∷ [])) ≡ some 4)
-    × (refusal (lineOf firstFresh (pos 1)) (field 8 ((2 ∷ 0 ∷ 0 ∷ 0 ∷ []) ++ words (two (pos 0) (pos 0)) ++ words (two (pos 0) (pos 0)))) ≡ some 5)
+    × (refusal (lineOf firstFresh (pos 1)) origin ≡ some 5)
     × (refusal (lineOf firstFresh (pos 1)) (field 8 ((1 ∷ 0 ∷ 0 ∷ 0 ∷ []) ++ words (pos 0 ∷ negsuc 0 ∷ []))) ≡ some 6)
     × (refusal (lineOf firstFresh (pos 1)) (line 8 1 (pos 0)) ≡ some 7)
     × (refusal (lineOf firstFresh (pos 1)) (line 8 1 (pos 1048577)) ≡ some 8)
     × (refusal (lineOf firstFresh (pos 1)) (many 1 11) ≡ none)
     × (refusal (lineOf firstFresh (pos 1)) (many 1 12) ≡ some 9)
     × (refusal (lineOf firstFresh (pos 1048576)) (line 8 1 (pos 1048575)) ≡ some 10)
-unfolding causes firstOf misplaced cut kindOf meaning number word givenSet badRange badOrder tooWide span termSizes
-    generatorSizes rises order sumBy uptoBy tab any all hull blended opposite rounded inexactAt roundedRadius round exact inexact joined union
-    insertIdentifier align finish dropUnused foldGenerators foldTerms foldHigh dropZeroGenerators dropZeroTerms collectTerms insert collectInto
-    those foldAll foldVector shift growth foldTimes foldSmallest smallest size keepAt longer even half halfSize
+unfolding causes firstOf misplaced cut kindOf meaning number word givenSet badRange badOrder tooWide span termSizes generatorSizes rises
+    order sumBy uptoBy tab any all hull blended opposite rounded inexactAt roundedRadius round exact inexact joined union insertIdentifier
+    align finish dropUnused foldGenerators foldTerms foldHigh dropZeroGenerators dropZeroTerms collectTerms insert collectInto those
+    foldAll foldVector shift growth foldTimes foldSmallest smallest size keepAt longer even half halfSize
 hull-causes = (refl, refl, refl, refl, refl, refl, refl, refl, refl, refl, refl)

@@ -28,7 +28,8 @@ unfolding all
 factor-first [] fs h = absurd (true≢false h)
 factor-first (e ∷ es) fs h = go (eqb e 0) h (factor-first es fs)
   where
-    go : (b : Bool) → (b && factorless es) ≡ false → (factorless es ≡ false → factorless (es ++ fs) ≡ false) → (b && factorless (es ++ fs)) ≡ false
+    go : (b : Bool) → (b && factorless es) ≡ false → (factorless es ≡ false → factorless (es ++ fs) ≡ false)
+        → (b && factorless (es ++ fs)) ≡ false
     go true k ih = ih k
     go false k ih = refl
 

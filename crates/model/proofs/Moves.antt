@@ -22,7 +22,7 @@ use Rattle.model.specs.Hull as Hull
 use Rattle.model.specs.Body.{givenSet, givenStep, givenRadii, termLimit, generatorLimit}
 use Rattle.model.specs.Field.{Kind, start, step, disturbance, independent, tied, reduction, check, hull, unknown, meaning}
 use Rattle.model.specs.Points.{Vector, Point, InRange}
-use Rattle.model.specs.Motion.{between, Picks, bodyPoint, offsetLimit, move, valuesAfter}
+use Rattle.model.specs.Motion.{Picks, bodyPoint, offsetLimit, between, move, valuesAfter}
 use Rattle.model.specs.Precision.{Renumbers}
 use Rattle.model.proofs.Tests.{all-tab, true-rises}
 use Rattle.model.proofs.Shape.{Valid, Ordered, ranged}
@@ -63,17 +63,9 @@ file-agrees p {s = s} e v = All-imp (λ k h. e k (below k (h .1))) (ranged fileI
     below : (k : ℕ) → k ≤ fileIdentifiers → k < firstFresh
     below k h = omega arith
 
--- the same for values that agree with the current ones below `next`
-file-values : (p : Picks) {α γ : Vector} {s : Zonotope} {next : ℕ} → firstFresh ≤ next → Agree p α → ((k : ℕ) → k < next → γ k ≡ α k)
-    → Valid fileIdentifiers s → All (λ k. p .values k ≡ γ k) (s .identifiers)
-file-values p {s = s} {next = next} l e f v =
-    All-imp (λ k h. e k (below k (h .1)) ∙ sym (f k (under k (h .1)))) (ranged fileIdentifiers s (v .ranges) .identifiers-in)
-  where
-    below : (k : ℕ) → k ≤ fileIdentifiers → k < firstFresh
-    below k h = omega arith
-
-    under : (k : ℕ) → k ≤ fileIdentifiers → k < next
-    under k h = omega arith
+-- values that are the same below `next` agree too
+agree-below : (p : Picks) {α γ : Vector} {next : ℕ} → firstFresh ≤ next → Agree p α → ((k : ℕ) → k < next → γ k ≡ α k) → Agree p γ
+agree-below p l e f k h = e k h ∙ sym (f k (omega arith))
 
 rising : {s : Zonotope} → Ordered s → rises ltb (s .identifiers) ≡ true
 rising o = true-rises ltb (λ a b h. lt-ltb a b h) (o .identifiers-rise)
@@ -122,7 +114,8 @@ module _ (b : List ℕ) (p : Picks) (m next : ℕ) (α : Vector) where
   values-range hull w o c j = cond-range (ltb j next) (w j) c
 
 -- ---- the kinds
-module _ (b : List ℕ) (p : Picks) (m next : ℕ) (s : Zonotope) {α x : Vector} (l : firstFresh ≤ next) (w : InRange α) (agree : Agree p α) where
+module _ (b : List ℕ) (p : Picks) (m next : ℕ) (s : Zonotope) {α x : Vector} (l : firstFresh ≤ next) (w : InRange α)
+    (agree : Agree p α) where
   pub keeps : (k : Kind) → Inside p m k b → (starts k ≡ false → Held next s × Point s α x) → Passed (meaning k b next s)
       → Point (meaning k b next s .result) (valuesAfter k b p m next α) (move k b p m x)
   unfolding meaning valuesAfter move offsetLimit Step.step reduce givenStep
@@ -144,7 +137,7 @@ module _ (b : List ℕ) (p : Picks) (m next : ℕ) (s : Zonotope) {α x : Vector
       let e = blend-value b p m next α in
       let old = old-value b p m next α hull in
       let s-in = same-values {s = s} {α = α} {β = γ} (All-imp (λ k h. sym (old k (h .1))) (h refl .0 .identifiers-in)) .0 (h refl .1) in
-      let u-in = same-values {s = givenSet b} {α = p .values} {β = γ} (file-values p l agree old v) .0
+      let u-in = same-values {s = givenSet b} {α = p .values} {β = γ} (file-agrees p (agree-below p {γ = γ} l agree old) v) .0
       (body-point p m (givenSet b) (p .values) (i .numbers) (i .offsets)) in
       subst (λ (c : ℚ). Point (Hull.hull standardWeights next s (givenSet b)) γ
       (between c x (bodyPoint p m (givenSet b) (p .values)))) e

@@ -79,7 +79,13 @@ sign-within (suc zero) = within-one
 sign-within (suc (suc m)) = within-neg within-one
 
 allowed : Allowed picks fields
-allowed = record { values = λ k. within-one; own = λ m k. sign-within m; numbers = λ m j. zero-within 1; offsets = λ m i. zero-within _; blend = λ m. zero-within 1 }
+allowed = record {
+  values = λ k. within-one;
+  own = λ m k. sign-within m;
+  numbers = λ m j. zero-within 1;
+  offsets = λ m i. zero-within _;
+  blend = λ m. zero-within 1;
+}
 
 -- ---- where it is after the three fields, and the box that the old edition answers
 abbrev first : Moment

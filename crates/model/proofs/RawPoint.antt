@@ -14,8 +14,8 @@ use Rattle.rational.specs.Order.{gap-eq}
 use Rattle.rational.specs.Bounds.{Within, within-+}
 use Rattle.rational.specs.Near.{Near, near-as}
 use Rattle.rational.specs.Sum.{All}
-use Rattle.model.specs.Set.{Zonotope, at, radius, termSizes, generatorSizes}
-use Rattle.model.specs.Step.{Step, raw, rawLinear, remainder, independentSize}
+use Rattle.model.specs.Set.{Zonotope, at, radius, termSizes, generatorSizes, independentSize}
+use Rattle.model.specs.Step.{Step, raw, rawLinear, remainder}
 use Rattle.model.specs.Points.{Vector, valueAt, Point, InRange}
 use Rattle.model.specs.Motion.{places, image}
 use Rattle.model.proofs.Parts.{termParts, generatorParts, spread, terms-spread, generators-spread, terms-ranged, generators-ranged}
@@ -85,7 +85,7 @@ raw-near p s i below {α} {x} w bs e r near = record {
     δ-in j h = subst (λ z. Within z (ι (pos (radius s j))))
         (sym (minus-is (x j) (valueAt s α bs j) (near j h .off) (sym (near j h .is)))) (near j h .small)
 
-    g-in : (j : ℕ) → j < p .columns → Within ((G ⊕ δ) j) (ι (pos (independentSize p s j)))
+    g-in : (j : ℕ) → j < p .columns → Within ((G ⊕ δ) j) (ι (pos (independentSize s j)))
     g-in j h = subst (Within (G j +ℚ δ j)) (sym (ι-+ (pos _) (pos (radius s j)))
         ∙ ap (λ m. ι (pos (m + radius s j))) (generatorParts-sum (λ v. natAbs (at v j)) (s .generators) bs e))
         (within-+ (spread-within (generators-ranged (s .generators) r) j) (δ-in j h))

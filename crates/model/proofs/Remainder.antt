@@ -8,8 +8,8 @@ use Rattle.rational.specs.Ring.{ring, *ℚ-comm}
 use Rattle.rational.specs.Pinned.{ι-+, ι-*}
 use Rattle.rational.specs.Bounds.{Within, within-+, within-*, within-ι}
 use Rattle.rational.specs.Sum.{sum, sum-+, sum-cong, sum-within}
-use Rattle.model.specs.Set.{Zonotope, at, radius, termSizes}
-use Rattle.model.specs.Step.{Step, linearAt, quadraticAt, slope, independentSize, remainder}
+use Rattle.model.specs.Set.{Zonotope, at, radius, termSizes, independentSize}
+use Rattle.model.specs.Step.{Step, linearAt, quadraticAt, slope, remainder}
 use Rattle.model.specs.Points.{Vector}
 use Rattle.model.specs.Motion.{places}
 use Rattle.model.proofs.Forms.{_⊕_, dotℚ, bilinear-double, about-row}
@@ -54,16 +54,17 @@ module _ (p : Step) (s : Zonotope) (i : ℕ) where
 
   -- what the independent part comes to with the terms and with itself
   cross-within : {t g : Vector} → ((j : ℕ) → j < p .columns → Within (t j) (ι (pos (termSizes s j))))
-      → ((j : ℕ) → j < p .columns → Within (g j) (ι (pos (independentSize p s j))))
+      → ((j : ℕ) → j < p .columns → Within (g j) (ι (pos (independentSize s j))))
       → Within (bilinearOf p i t g +ℚ bilinearOf p i g t +ℚ bilinearOf p i g g)
       (ι (pos (uptoℕ (λ j. uptoℕ (λ l. natAbs (quadraticAt p i j l)
-      * (termSizes s j * independentSize p s l + independentSize p s j * termSizes s l + independentSize p s j * independentSize p s l)) (p .columns))
+      * (termSizes s j * independentSize s l + independentSize s j * termSizes s l
+      + independentSize s j * independentSize s l)) (p .columns))
       (p .columns))))
   cross-within {t} {g} ht hg =
       within-as (within-upto _ (p .columns) (λ j hj. within-upto _ (p .columns) (λ l hl.
       within-as (within-* (within-ι (quadraticAt p i j l))
       (within-+ (within-+ (within-* (ht j hj) (hg l hl)) (within-* (hg j hj) (ht l hl))) (within-* (hg j hj) (hg l hl)))) refl
-      (sym (product (natAbs (quadraticAt p i j l)) (termSizes s j) (termSizes s l) (independentSize p s j) (independentSize p s l))))))
+      (sym (product (natAbs (quadraticAt p i j l)) (termSizes s j) (termSizes s l) (independentSize s j) (independentSize s l))))))
       (sym (crossed t g)) refl
     where
       product : (q a b x y : ℕ) → ι (pos (q * (a * y + x * b + x * y)))
@@ -72,7 +73,7 @@ module _ (p : Step) (s : Zonotope) (i : ℕ) where
 
   -- all that the independent part contributes: δ are the offsets, g the generators and the offsets, t the terms
   pub remainder-within : {t g δ : Vector} → ((j : ℕ) → j < p .columns → Within (t j) (ι (pos (termSizes s j))))
-      → ((j : ℕ) → j < p .columns → Within (g j) (ι (pos (independentSize p s j))))
+      → ((j : ℕ) → j < p .columns → Within (g j) (ι (pos (independentSize s j))))
       → ((j : ℕ) → j < p .columns → Within (δ j) (ι (pos (radius s j))))
       → Within (aboutOf p i (coordinates (s .centre)) δ +ℚ (bilinearOf p i t g +ℚ bilinearOf p i g t +ℚ bilinearOf p i g g))
       (ι (pos (remainder p s i)))

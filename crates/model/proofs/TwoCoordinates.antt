@@ -1,4 +1,4 @@
--- A run in two coordinates with two factors, computed from its bytes: all seven kinds, a reduction that the weights decide, a verdict that
+-- A run in two coordinates with two factors, computed from its bytes: tags 1 to 7, a reduction that the weights decide, a verdict that
 -- the second halfspace decides, and a second start set, which is refused.
 use mathlib.Core.Path.{_≡_, refl}
 use mathlib.Core.List.{List, [], _∷_, _++_}

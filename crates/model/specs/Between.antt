@@ -1,5 +1,5 @@
--- What is claimed of a hull (Propositions 14 and 15): at equal factor values it has every point between a point of the one set and a point of
--- the other. The theorems are in proofs/HullPoint.antt.
+-- What is claimed of a hull (Propositions 14 and 15): at equal factor values it has every point between a point of the one set and a point
+-- of the other. The theorems are in proofs/HullPoint.antt.
 use mathlib.Core.Path.{_≡_}
 use mathlib.Core.List.{List}
 use mathlib.Core.Bool.{true}

@@ -103,7 +103,8 @@ meaning independent b next s =
     ofSet b (differs (dimension b) (s .dimension)) (tooMany s (renumbered next (givenSet b)))
     (independentSum standardWeights next s (givenSet b)) (next + factors b)
 meaning hull b next s =
-    ofSet b (differs (dimension b) (s .dimension)) (tooManyBlended s (givenSet b)) (Hull.hull standardWeights next s (givenSet b)) (next + 1)
+    ofSet b (differs (dimension b) (s .dimension)) (tooManyBlended s (givenSet b))
+    (Hull.hull standardWeights next s (givenSet b)) (next + 1)
 meaning step b next s = let result = Step.step standardWeights (givenStep b) s in record {
   countBytes = 2;
   wrongCounts = badDimension (stepRows b) || badDimension (stepColumns b);

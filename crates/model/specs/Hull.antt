@@ -1,5 +1,5 @@
--- The hull with a second set (Propositions 14 and 15 of source document 001; equal identifiers stay one factor): every point between a point of
--- the one set and a point of the other at equal factor values, by a fresh factor that blends them.
+-- The hull with a second set (Propositions 14 and 15 of source document 001; equal identifiers stay one factor): every point between a point
+-- of the one set and a point of the other at equal factor values, by a fresh factor that blends them.
 use mathlib.Core.List.{List, [], _∷_, _++_, map}
 use mathlib.Core.Bool.{cond}
 use Prim.Native.Nat.{ℕ, _+_, _*_}
@@ -9,13 +9,13 @@ use lib.IntN.{ℤ, pos, negℤ, _*ℤ_}
 use Rattle.whole.specs.Round.{scale}
 use Rattle.whole.specs.Tab.{tab}
 use Rattle.model.specs.Limits.{maxTerms, maxGenerators}
-use Rattle.model.specs.Set.{Term, Zonotope, radius, generatorSizes}
+use Rattle.model.specs.Set.{Term, Zonotope, independentSize}
 use Rattle.model.specs.Finish.{finish}
 use Rattle.model.specs.Step.{rounded}
 use Rattle.model.specs.Operations.{joined}
 
 -- ---- 1. raw numbers, in 1/16,777,216
--- half of each number of a vector
+-- half of each number of a vector: 8,388,608 is half of 16,777,216
 abbrev pub halved : List ℤ → List ℤ
 halved v = map (pos 8388608 *ℤ_) v
 
@@ -38,10 +38,6 @@ opposite u = record {
 abbrev pub larger : ℕ → ℕ → ℕ
 larger m n = cond (ltb m n) n m
 
--- generators and radius of coordinate i together
-abbrev pub independentPart : Zonotope → ℕ → ℕ
-independentPart s i = generatorSizes s i + radius s i
-
 -- x a point of s, y one of u, v the blending factor: (x + y)/2 + v(x - y)/2, and the larger independent part
 unfoldable pub blended : ℕ → Zonotope → Zonotope → Zonotope
 blended next s u =
@@ -55,7 +51,7 @@ blended next s u =
           record { exponents = replicate (length (sum .identifiers)) 0 ++ (1 ∷ []); coefficients = halved (difference .centre) }
           ∷ (map (blend 0) (sum .terms) ++ map (blend 1) (difference .terms));
       generators = [];
-      radii = tab (s .dimension) (λ i. scale * larger (independentPart s i) (independentPart u i));
+      radii = tab (s .dimension) (λ i. scale * larger (independentSize s i) (independentSize u i));
     }
 
 -- ---- 2. each is rounded, and the result finished

@@ -35,6 +35,10 @@ termSizes s i = sumℕ (λ t. natAbs (at (t .coefficients) i)) (s .terms)
 unfoldable pub generatorSizes : Zonotope → ℕ → ℕ
 generatorSizes s i = sumℕ (λ g. natAbs (at g i)) (s .generators)
 
+-- of the generators and the radius together
+abbrev pub independentSize : Zonotope → ℕ → ℕ
+independentSize s i = generatorSizes s i + radius s i
+
 -- the span of coordinate i: no point of the set is further from 0
 unfoldable pub span : Zonotope → ℕ → ℕ
 span s i = natAbs (at (s .centre) i) + termSizes s i + generatorSizes s i + radius s i

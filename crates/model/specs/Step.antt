@@ -6,7 +6,7 @@ use Rattle.whole.specs.Round.{scale, round, inexact}
 use Rattle.whole.specs.Sum.{sumℕ, uptoℕ, uptoℤ}
 use Rattle.whole.specs.Tab.{tab}
 use Rattle.model.specs.Limits.{maxTerms, maxGenerators}
-use Rattle.model.specs.Set.{Term, Zonotope, at, radius, termSizes, generatorSizes, plusℕ}
+use Rattle.model.specs.Set.{Term, Zonotope, at, radius, termSizes, independentSize, plusℕ}
 use Rattle.model.specs.Finish.{finish}
 
 -- from `columns` coordinates to `rows`: c, then A by rows, then Q by forms and rows, each as one list. A and Q are in 1/4096
@@ -78,14 +78,12 @@ module _ (p : Step) (s : Zonotope) where
   abbrev pub slope : ℕ → ℕ → ℤ
   slope i j = pos 4096 *ℤ linearAt p i j +ℤ uptoℤ (λ l. (quadraticAt p i j l +ℤ quadraticAt p i l j) *ℤ at (s .centre) l) (p .columns)
 
-  abbrev pub independentSize : ℕ → ℕ
-  independentSize j = generatorSizes s j + radius s j
-
   unfoldable pub remainder : ℕ → ℕ
   remainder i =
       uptoℕ (λ j. natAbs (slope i j) * radius s j) (p .columns)
       + uptoℕ (λ j. uptoℕ (λ l. natAbs (quadraticAt p i j l)
-      * (termSizes s j * independentSize l + independentSize j * termSizes s l + independentSize j * independentSize l)) (p .columns)) (p .columns)
+      * (termSizes s j * independentSize s l + independentSize s j * termSizes s l + independentSize s j * independentSize s l))
+      (p .columns)) (p .columns)
 
   -- the image in raw units
   unfoldable pub raw : Zonotope

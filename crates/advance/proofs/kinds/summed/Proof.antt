@@ -44,8 +44,10 @@ add-accepted c =
 
 accepted-requires : tie.Need-accepted-requires
 accepted-requires c κs =
-    let t = c .before .before in let i = t .before .before in let s = start i in
-    (fresh-limits (s .args .st) (s .pre .0) (s .pre .1) independent (s .args .body .now) (i .independent .ensures) (t .enum-told .given .1), s .pre .2)
+    let t = c .before .before in let i = t .before .before in let s = start i in (
+      fresh-limits (s .args .st) (s .pre .0) (s .pre .1) independent (s .args .body .now) (i .independent .ensures) (t .enum-told .given .1),
+      s .pre .2,
+    )
 
 returns : tie.Need-returns
 returns c =

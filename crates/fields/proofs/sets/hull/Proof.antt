@@ -20,19 +20,23 @@ returns : tie.Need-returns
 unfolding meaning view
 returns c =
     let s = c .before .before in let a = s .before .before .args in let b = a .body .now in let u = view (a .first) in
-    made-refused (a .first) b (tooManyBlended u) (hull standardWeights (a .next) u) (a .next + 1) (s .summand .ensures) (sym (c .before .is-refused .ensures) ∙ c .if1 .taken)
+    made-refused (a .first) b (tooManyBlended u) (hull standardWeights (a .next) u) (a .next + 1)
+    (s .summand .ensures) (sym (c .before .is-refused .ensures) ∙ c .if1 .taken)
 
 hulled-requires : tie.Need-hulled-requires
 hulled-requires c κs =
     let i = c .before in let s = i .before .before in let a = s .before .before .args in let b = a .body .now in let u = view (a .first) in
-    made-summable (a .first) b (tooManyBlended u) (hull standardWeights (a .next) u) (a .next + 1) (s .summand .ensures) (sym (i .before .is-refused .ensures) ∙ i .if1 .left) (s .before .before .pre)
+    made-summable (a .first) b (tooManyBlended u) (hull standardWeights (a .next) u) (a .next + 1)
+    (s .summand .ensures) (sym (i .before .is-refused .ensures) ∙ i .if1 .left)
+    (s .before .before .pre)
 
 returns-2 : tie.Need-returns-2
 unfolding meaning view
 returns-2 c =
     let i = c .before .before in let s = i .before .before in let a = s .before .before .args in let b = a .body .now in
     let u = view (a .first) in
-    made-answered (a .first) b (tooManyBlended u) (hull standardWeights (a .next) u) (a .next + 1) (s .summand .ensures) (sym (i .before .is-refused .ensures) ∙ i .if1 .left)
+    made-answered (a .first) b (tooManyBlended u) (hull standardWeights (a .next) u) (a .next + 1)
+    (s .summand .ensures) (sym (i .before .is-refused .ensures) ∙ i .if1 .left)
     (c .hulled .ensures)
 
 pub hull-spec : {M : Type 1} → statement M

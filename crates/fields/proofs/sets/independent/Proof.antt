@@ -21,19 +21,25 @@ returns : tie.Need-returns
 unfolding meaning view
 returns c =
     let s = c .before .before in let a = s .before .before .args in let b = a .body .now in let u = view (a .first) in
-    made-refused (a .first) b (λ v. tooMany u (renumbered (a .next) v)) (independentSum standardWeights (a .next) u) (a .next + factors b) (s .summand .ensures) (sym (c .before .is-refused .ensures) ∙ c .if1 .taken)
+    made-refused (a .first) b (λ v. tooMany u (renumbered (a .next) v)) (independentSum standardWeights (a .next) u) (a .next + factors b)
+    (s .summand .ensures) (sym (c .before .is-refused .ensures) ∙ c .if1 .taken)
 
 independent-requires : tie.Need-independent-requires
 independent-requires c κs =
-    let i = c .before in let s = i .before .before in let a = s .before .before .args in let b = a .body .now in let u = view (a .first) in
-    (made-summable (a .first) b (λ v. tooMany u (renumbered (a .next) v)) (independentSum standardWeights (a .next) u) (a .next + factors b) (s .summand .ensures) (sym (i .before .is-refused .ensures) ∙ i .if1 .left) (s .before .before .pre .0), s .before .before .pre .1)
+    let i = c .before in let s = i .before .before in let a = s .before .before .args in let b = a .body .now in let u = view (a .first) in (
+      made-summable (a .first) b (λ v. tooMany u (renumbered (a .next) v)) (independentSum standardWeights (a .next) u) (a .next + factors b)
+          (s .summand .ensures) (sym (i .before .is-refused .ensures) ∙ i .if1 .left)
+          (s .before .before .pre .0),
+      s .before .before .pre .1,
+    )
 
 returns-2 : tie.Need-returns-2
 unfolding meaning view
 returns-2 c =
     let i = c .before .before in let s = i .before .before in let a = s .before .before .args in let b = a .body .now in
     let u = view (a .first) in
-    made-answered (a .first) b (λ v. tooMany u (renumbered (a .next) v)) (independentSum standardWeights (a .next) u) (a .next + factors b) (s .summand .ensures) (sym (i .before .is-refused .ensures) ∙ i .if1 .left)
+    made-answered (a .first) b (λ v. tooMany u (renumbered (a .next) v)) (independentSum standardWeights (a .next) u) (a .next + factors b)
+    (s .summand .ensures) (sym (i .before .is-refused .ensures) ∙ i .if1 .left)
     (c .independent .ensures)
 
 pub independent-spec : {M : Type 1} → statement M
