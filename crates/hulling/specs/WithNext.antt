@@ -3,27 +3,22 @@ use mathlib.Core.Path.{_≡_, sym, ap₂, _∙_}
 use mathlib.Core.List.{List, [], _∷_, _++_}
 use Prim.Native.Nat.{ℕ, _+_, _<_, _≤_}
 use native.Mathlib.Omega.{arith}
-use lib.ListN.{length, getD, set, replicate, length-replicate}
+use lib.ListN.{length, getD, set}
 use lib.Seq.{getD-set-same, getD-set-other}
-use Rattle.whole.specs.Tab.{tab, tab-cong, tab-more, length-tab}
-use Rattle.whole.specs.Write.{write, write-length}
+use Rattle.whole.specs.Tab.{tab, tab-cong, tab-more, length-tab, getD-tab}
 use Rattle.model.specs.Set.{Zonotope}
 use Rattle.model.specs.Operations.{joined}
 use Rattle.model.specs.Hull.{blended}
-use Rattle.forms.specs.Filling.{first-at}
 use Rattle.align.specs.declared.Identifiers.{Identifiers}
 use Rattle.align.specs.Sum.{Common}
 
--- the first `count` numbers, and `next` after them
+-- the first twelve numbers, with `next` after `count` of them
 abbrev pub withNext : List ℕ → ℕ → ℕ → List ℕ
-withNext numbers count next = set (write (replicate 12 0) 0 (λ i. getD numbers i 0) count) count next
+withNext numbers count next = set (tab 12 (λ i. getD numbers i 0)) count next
 
 module _ (s u : Zonotope) (next : ℕ) (all : Identifiers) (o : Common (joined s u) all) (few : all .count < 12) where
   abbrev own : List ℕ
-  own = write (replicate 12 0) 0 (λ i. getD (all .numbers) i 0) (all .count)
-
-  own-long : length own ≡ 12
-  own-long = write-length (replicate 12 0) 0 (λ i. getD (all .numbers) i 0) (all .count) ∙ length-replicate {A = ℕ} 12 0
+  own = tab 12 (λ i. getD (all .numbers) i 0)
 
   -- they are those of the blend
   pub ids-are : tab (all .count + 1) (λ i. getD (withNext (all .numbers) (all .count) next) i 0) ≡ blended next s u .identifiers
@@ -33,9 +28,9 @@ module _ (s u : Zonotope) (next : ℕ) (all : Identifiers) (o : Common (joined s
       ∙ ap₂ (λ (xs : List ℕ) (x : ℕ). xs ++ (x ∷ []))
       (tab-cong (all .count) _ _ (λ i l.
       getD-set-other own (all .count) i next 0 (λ q. omega arith)
-      ∙ first-at (replicate 12 0) (λ i. getD (all .numbers) i 0) 0 (all .count) i l (omega (arith, length-replicate {A = ℕ} 12 0)))
+      ∙ getD-tab 12 (λ i. getD (all .numbers) i 0) 0 i (omega arith))
       ∙ o .identifiers)
-      (getD-set-same own (all .count) next 0 (omega (arith, own-long)))
+      (getD-set-same own (all .count) next 0 (omega (arith, length-tab 12 (λ i. getD (all .numbers) i 0))))
 
   pub ids-few : length (blended next s u .identifiers) ≤ 12
   ids-few = rw (sym ids-are, length-tab (all .count + 1) _) (omega arith)

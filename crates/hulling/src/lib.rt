@@ -142,16 +142,12 @@ fn independent_parts(s: PolyZonotope) -> [u64; 6]
     image::remainder::spreads(&vectors, s.generators, &radii)
 }
 
-// The first `count` numbers, and `next` after them.
+// The first twelve numbers, with `next` after `count` of them.
 fn with_next(numbers: &[u32; 24], count: usize, next: u32) -> [u32; 12]
     requires { ⌜ count < 12 ⌝ }
     ensures { λ r. ⌜ r ≡ withNext (now (numbers .entry)) count next ⌝ }
 {
-    let mut out = [0u32; 12];
-    for i in 0..count {
-        let x = numbers[i];
-        out[i] = x;
-    }
+    let mut out = summing::sum::first_twelve(numbers);
     out[count] = next;
     out
 }

@@ -129,7 +129,7 @@ fn too_many(count: usize) -> bool
 }
 
 // The first twelve numbers.
-fn first_twelve(numbers: &[u32; 24]) -> [u32; 12]
+pub fn first_twelve(numbers: &[u32; 24]) -> [u32; 12]
     ensures { λ r. ⌜ r ≡ tab 12 (λ i. getD (now (numbers .entry)) i 0) ⌝ }
 {
     let mut out = [0u32; 12];
