@@ -1,7 +1,6 @@
 -- Calls chain: the set of a hull that is accepted is accepted by the next call, and the places that its counts leave unused are 0.
 use mathlib.Core.Path.{_≡_, sym, _∙_}
 use mathlib.Core.Option.{none}
-use mathlib.Core.Bool.{_||_}
 use Prim.Native.Nat.{ℕ}
 use native.Mathlib.Omega.{arith}
 use Rattle.model.specs.Limits.{recordIdentifiers, standardWeights}

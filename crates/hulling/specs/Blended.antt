@@ -14,7 +14,7 @@ use Rattle.rational.specs.Sum.{All, none, more}
 use Rattle.model.specs.Set.{Term, Zonotope, at}
 use Rattle.model.specs.Operations.{union, align, aligned, joined}
 use Rattle.model.specs.Hull.{halved, blend, opposite, blended}
-use Rattle.model.proofs.Vectors.{plusℤ-at}
+use Rattle.model.proofs.Vectors.{plusℤ-at, at-map}
 use Rattle.model.proofs.SumShape.{align-length}
 use Rattle.zonotope.specs.declared.PolyZonotope.{PolyZonotope}
 use Rattle.zonotope.specs.Record.{view}
@@ -27,7 +27,7 @@ use Rattle.align.specs.Runs.{tab-++}
 use Rattle.align.specs.Examined.{Examined, counts, centre-wide, centre-small}
 use Rattle.align.specs.Sum.{Common, Terms}
 use Rattle.finish.specs.Wide.{wideTerm, wideVector}
-use Rattle.hulling.specs.WideTerms.{half, turned, at-map, half-at}
+use Rattle.hulling.specs.WideTerms.{half, turned, half-at}
 use Rattle.hulling.specs.Blending.{timesAt, exponentRuns, numberRuns, blend-rows}
 use Rattle.hulling.specs.Sizes.{blendLimit}
 

@@ -13,6 +13,7 @@ use Rattle.whole.specs.Tab.{tab, tab-cong, getD-tab}
 use Rattle.rational.specs.Sum.{All, none, more}
 use Rattle.model.specs.Set.{Term, at}
 use Rattle.model.specs.Hull.{halved, blend}
+use Rattle.model.proofs.Vectors.{at-map}
 use Rattle.raw.specs.Append.{term-same}
 use Rattle.finish.specs.Wide.{wideTerm}
 
@@ -55,11 +56,6 @@ last-at xs p n k l = go (eqb k n) refl
     go false e = last-other xs p k (λ q. eqb-false k n e (q ∙ l))
 
 -- ---- numbers halved
-pub at-map : (f : ℤ → ℤ) → f (pos 0) ≡ pos 0 → (v : List ℤ) (i : ℕ) → at (map f v) i ≡ f (at v i)
-at-map f e [] i = sym e
-at-map f e (x ∷ v) zero = refl
-at-map f e (x ∷ v) (suc i) = at-map f e v i
-
 pub half-at : (v : List ℤ) (j : ℕ) → at (halved v) j ≡ half *ℤ at v j
 half-at = at-map (half *ℤ_) refl
 

@@ -6,7 +6,7 @@ use Prim.Native.Nat.{ℕ, _+_, _*_, _<_, _≤_}
 use native.Mathlib.Omega.{arith}
 use lib.Dec.{ltb}
 use borrow.Author.Tests.{ltb-true, ltb-false, lt-ltb, le-ltb}
-use lib.ListN.{length, getD, replicate, length-replicate, List·getD-map}
+use lib.ListN.{length, replicate, length-replicate}
 use lib.IntN.{ℤ, pos, negℤ, _*ℤ_}
 use Rattle.whole.specs.Round.{scale}
 use Rattle.whole.specs.Tab.{getD-tab}
@@ -30,6 +30,7 @@ use Rattle.model.specs.Between.{HullBetween, HullEnds}
 use Rattle.model.specs.Hull.{halved, blend, opposite, larger, blended, hull}
 use Rattle.model.specs.Step.{rounded}
 use Rattle.model.specs.Points.{Vector, monomial, termsAt, generatorsAt, valueAt, Point, InRange}
+use Rattle.model.proofs.Vectors.{at-map}
 use Rattle.model.proofs.Parts.{spread, generators-spread, convex}
 use Rattle.model.proofs.Ends.{generators-within}
 use Rattle.model.proofs.SumShape.{align-length}
@@ -69,9 +70,6 @@ monomial-none γ [] = refl
 monomial-none γ (m ∷ ms) = one-*ℚ (monomial γ ms (replicate (length ms) 0)) ∙ monomial-none γ ms
 
 -- ---- terms with the blending factor
-at-map : (f : ℤ → ℤ) → f (pos 0) ≡ pos 0 → (v : List ℤ) (i : ℕ) → at (map f v) i ≡ f (at v i)
-at-map f e v i = subst (λ z. getD (map f v) i z ≡ f (at v i)) e (List·getD-map f v i (pos 0))
-
 halved-at : (v : List ℤ) (i : ℕ) → ι (at (halved v) i) ≡ ι (pos 8388608) *ℚ ι (at v i)
 halved-at v i = ap ι (at-map (pos 8388608 *ℤ_) refl v i) ∙ ι-* (pos 8388608) (at v i)
 

@@ -1,10 +1,11 @@
--- Sums of vectors, number by number, where the shorter one counts as continued by zeros: laws for any monoid, and so for ℤ and ℕ.
-use mathlib.Core.Path.{_≡_, refl, sym, _∙_, ap, ap₂}
-use mathlib.Core.List.{List, [], _∷_}
+-- Sums of vectors, number by number, where the shorter one counts as continued by zeros: laws for any monoid, and so for ℤ and ℕ. And a
+-- function of each number.
+use mathlib.Core.Path.{_≡_, refl, sym, _∙_, ap, ap₂, subst}
+use mathlib.Core.List.{List, [], _∷_, map}
 use Prim.Native.Nat.{ℕ, zero, suc, _+_}
 use native.Mathlib.Nat.{suc-inj}
-use lib.ListN.{length, getD}
-use lib.IntN.{ℤ, _+ℤ_}
+use lib.ListN.{length, getD, List·getD-map}
+use lib.IntN.{ℤ, pos, _+ℤ_}
 use Rattle.whole.specs.Sum.{Monoid, monoidℕ, monoidℤ}
 use Rattle.model.specs.Set.{longer, plusℤ, plusℕ, at}
 
@@ -44,3 +45,7 @@ plusℤ-at u v i = longer-at monoidℤ u v i
 
 pub plusℕ-at : (u v : List ℕ) (i : ℕ) → getD (plusℕ u v) i 0 ≡ getD u i 0 + getD v i 0
 plusℕ-at u v i = longer-at monoidℕ u v i
+
+-- ---- a function of each number that leaves 0
+pub at-map : (f : ℤ → ℤ) → f (pos 0) ≡ pos 0 → (v : List ℤ) (i : ℕ) → at (map f v) i ≡ f (at v i)
+at-map f e v i = subst (λ z. getD (map f v) i z ≡ f (at v i)) e (List·getD-map f v i (pos 0))
