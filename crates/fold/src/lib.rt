@@ -26,12 +26,13 @@ pub struct Core {
 pub fn fold_rows(
     s: &[i64],
     n: usize,
-    gone: &[bool; 860],
-    even: &[bool; 860],
+    gone: &[bool],
+    even: &[bool],
     centre: [i64; 6],
     radii: [u64; 6],
 ) -> Core
-    requires { ⌜ (n ≤ 860) × (n * 6 ≤ length (now s)) × Small (2 ^ 50) (now s) × Small (2 ^ 61) centre × Under (2 ^ 61) radii ⌝ }
+    requires { ⌜ (n ≤ 860) × (n * 6 ≤ length (now s)) × (n ≤ length (now gone)) × (n ≤ length (now even)) × Small (2 ^ 50) (now s)
+        × Small (2 ^ 61) centre × Under (2 ^ 61) radii ⌝ }
     ensures { λ r. ⌜ Folding (now (s .entry)) (now (gone .entry)) (now (even .entry)) centre radii n (r .centre) (r .radii) ⌝ }
 {
     let mut c = centre;
@@ -55,8 +56,8 @@ pub fn fold_rows(
 }
 
 // Of the first n rows those that `gone` doesn't mark, in their order. The answer is how many there are.
-pub fn keep_rows(s: &mut [i64], n: usize, gone: &[bool; 860]) -> usize
-    requires { ⌜ (n ≤ 860) × (n * 6 ≤ length (now s)) ⌝ }
+pub fn keep_rows(s: &mut [i64], n: usize, gone: &[bool]) -> usize
+    requires { ⌜ (n * 6 ≤ length (now s)) × (n ≤ length (now gone)) ⌝ }
     ensures { λ r. ⌜ (r ≤ n)
         × (tab r (numberRow (now (s .exit))) ≡ map (numberRow (now (s .entry))) (chosen (unmarked (now (gone .entry))) n))
         × ((b : ℕ) → Small b (now (s .entry)) → Small b (now (s .exit))) ⌝ }
@@ -77,8 +78,8 @@ pub fn keep_rows(s: &mut [i64], n: usize, gone: &[bool; 860]) -> usize
 }
 
 // Of the first n places those that `gone` doesn't mark, in their order. The answer is how many there are.
-pub fn keep_places(heads: &mut [u16], n: usize, gone: &[bool; 860]) -> usize
-    requires { ⌜ (n ≤ 860) × (n ≤ length (now heads)) ⌝ }
+pub fn keep_places(heads: &mut [u16], n: usize, gone: &[bool]) -> usize
+    requires { ⌜ (n ≤ length (now heads)) × (n ≤ length (now gone)) ⌝ }
     ensures { λ r. ⌜ (r ≤ n)
         × (tab r (λ k. getD (now (heads .exit)) k 0) ≡ map (λ k. getD (now (heads .entry)) k 0) (chosen (unmarked (now (gone .entry))) n))
         × ((e : List ℕ) → Places e (now (heads .entry)) → Places e (now (heads .exit))) ⌝ }
