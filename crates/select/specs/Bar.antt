@@ -91,61 +91,60 @@ from-end n k h = let e : n - k ≡ 0 = omega arith in rw e
 -- of n places k are passed, and r of size T are still to be kept
 pub record Marking (z : List ℕ) (T r₀ n : ℕ) (gone : List Bool) (r k : ℕ) : Type 0 where
   pub upto : k ≤ n
-  pub later : (i : ℕ) → k ≤ i → at gone i ≡ false
   pub keeps : keepAbove (sizeAt z) T r₀ (places n) ≡ chosen (unmarked gone) k ++ keepAbove (sizeAt z) T r (from n k)
   pub folds : foldedBelow (sizeAt z) T r₀ (places n) ≡ chosen (at gone) k ++ foldedBelow (sizeAt z) T r (from n k)
 
 module _ (z : List ℕ) (T r₀ n : ℕ) where
-  pub marking-start : (gone : List Bool) → ((i : ℕ) → at gone i ≡ false) → Marking z T r₀ n gone r₀ 0
-  marking-start gone clear = record {
+  pub marking-start : (gone : List Bool) → Marking z T r₀ n gone r₀ 0
+  marking-start gone = record {
     upto = omega arith;
-    later = λ i g. clear i;
     keeps = ap (keepAbove (sizeAt z) T r₀) (sym (from-all n))
         ∙ sym (ap (_++ keepAbove (sizeAt z) T r₀ (from n 0)) (chosen-none (unmarked gone)));
     folds = ap (foldedBelow (sizeAt z) T r₀) (sym (from-all n))
         ∙ sym (ap (_++ foldedBelow (sizeAt z) T r₀ (from n 0)) (chosen-none (at gone)));
   }
 
-  module _ {gone : List Bool} {r k : ℕ} (v : Marking z T r₀ n gone r k) (h : k < n) where
+  module _ {gone : List Bool} {r k : ℕ} (v : Marking z T r₀ n gone r k) (h : k < n) (l : k < length gone) where
+    same : (b : Bool) (i : ℕ) → i < k → at (set gone k b) i ≡ at gone i
+    same b i d = getD-set-other gone k i b false (λ (q : i ≡ k). omega arith)
+
     -- one below the bar is marked
-    pub marking-low : sizeAt z k < bar T r → k < length gone → Marking z T r₀ n (set gone k true) r (k + 1)
-    marking-low b l =
+    pub marking-low : sizeAt z k < bar T r → Marking z T r₀ n (set gone k true) r (k + 1)
+    marking-low b =
         let g = set gone k true in
         let here : at g k ≡ true = getD-set-same gone k true false l in
-        let same : (i : ℕ) → i < k → at g i ≡ at gone i = λ i d. getD-set-other gone k i true false (λ (q : i ≡ k). omega arith) in
         record {
           upto = omega arith;
-          later = λ i d. getD-set-other gone k i true false (λ (q : i ≡ k). omega arith) ∙ v .later i (omega arith);
           keeps =
               v .keeps
               ∙ ap₂ _++_
-              (sym (chosen-out (unmarked g) k (ap not here) ∙ chosen-cong (unmarked g) (unmarked gone) k (λ i d. ap not (same i d))))
+              (sym (chosen-out (unmarked g) k (ap not here) ∙ chosen-cong (unmarked g) (unmarked gone) k (λ i d. ap not (same true i d))))
               (ap (keepAbove (sizeAt z) T r) (from-next n k h) ∙ low-keeps (sizeAt z) T r k (from n (k + 1)) b);
           folds =
               v .folds
-              ∙ ap₂ _++_ (sym (chosen-cong (at g) (at gone) k same))
+              ∙ ap₂ _++_ (sym (chosen-cong (at g) (at gone) k (same true)))
               (ap (foldedBelow (sizeAt z) T r) (from-next n k h) ∙ low-folds (sizeAt z) T r k (from n (k + 1)) b)
               ∙ sym (append-assoc (chosen (at g) k) (k ∷ []) (foldedBelow (sizeAt z) T r (from n (k + 1))))
               ∙ ap (_++ foldedBelow (sizeAt z) T r (from n (k + 1))) (sym (chosen-in (at g) k here));
         }
 
     -- any other is not
-    pub marking-high : bar T r ≤ sizeAt z k → Marking z T r₀ n gone (left T r (sizeAt z k)) (k + 1)
+    pub marking-high : bar T r ≤ sizeAt z k → Marking z T r₀ n (set gone k false) (left T r (sizeAt z k)) (k + 1)
     marking-high b =
-        let e = v .later k (omega arith) in
+        let g = set gone k false in
+        let here : at g k ≡ false = getD-set-same gone k false false l in
         let r′ = left T r (sizeAt z k) in
         record {
           upto = omega arith;
-          later = λ i g. v .later i (omega arith);
           keeps =
               v .keeps
-              ∙ ap (chosen (unmarked gone) k ++_)
+              ∙ ap₂ _++_ (sym (chosen-cong (unmarked g) (unmarked gone) k (λ i d. ap not (same false i d))))
               (ap (keepAbove (sizeAt z) T r) (from-next n k h) ∙ high-keeps (sizeAt z) T r k (from n (k + 1)) b)
-              ∙ sym (append-assoc (chosen (unmarked gone) k) (k ∷ []) (keepAbove (sizeAt z) T r′ (from n (k + 1))))
-              ∙ ap (_++ keepAbove (sizeAt z) T r′ (from n (k + 1))) (sym (chosen-in (unmarked gone) k (ap not e)));
+              ∙ sym (append-assoc (chosen (unmarked g) k) (k ∷ []) (keepAbove (sizeAt z) T r′ (from n (k + 1))))
+              ∙ ap (_++ keepAbove (sizeAt z) T r′ (from n (k + 1))) (sym (chosen-in (unmarked g) k (ap not here)));
           folds =
               v .folds
-              ∙ ap₂ _++_ (sym (chosen-out (at gone) k e))
+              ∙ ap₂ _++_ (sym (chosen-out (at g) k here ∙ chosen-cong (at g) (at gone) k (same false)))
               (ap (foldedBelow (sizeAt z) T r) (from-next n k h) ∙ high-folds (sizeAt z) T r k (from n (k + 1)) b);
         }
 

@@ -1,10 +1,8 @@
--- `select::fold_high` meets its contract: what was marked has an exponent that is too large, and where none has one nothing is folded.
-use borrow.Author.Needs.{needs}
+-- `select::fold_high` meets its contract: where no exponent is too large nothing is folded, and else the arrays have room for the marks.
 use borrow.Author.Tests.{not-true}
-use Prim.Native.Nat.{_*_}
 use mathlib.Core.Path.{refl, sym, _∙_}
-use Rattle.rows.specs.WorkSpace.{open-from}
-use Rattle.select.specs.Stage.{passed-as, bounded-none, all-low, high-parted}
+use Rattle.select.specs.Stage.{bounded-none, all-low}
+use borrow.Author.Needs.{needs}
 use Rattle.select.proofs.fold_high.Statement.{statement}
 use Rattle.select.proofs.fold_high.Tie as tie
 
@@ -26,11 +24,14 @@ returns c =
       (refl, refl),
     )
 
-mark-requires : tie.Need-mark-requires
-mark-requires c κs = search needs
+slice-aggregate-fold-high-in : tie.Need-slice-aggregate-fold-high-in
+slice-aggregate-fold-high-in c = search needs
 
-part-terms-requires : tie.Need-part-terms-requires
-part-terms-requires c κs = search needs
+slice-aggregate-fold-high-in-2 : tie.Need-slice-aggregate-fold-high-in-2
+slice-aggregate-fold-high-in-2 c = search needs
+
+fold-high-in-requires : tie.Need-fold-high-in-requires
+fold-high-in-requires c κs = search needs
 
 same-length-2 : tie.Need-same-length-2
 same-length-2 c = search needs
@@ -40,18 +41,28 @@ same-length-3 c = search needs
 
 returns-2 : tie.Need-returns-2
 returns-2 c =
-    let parts = c .before .before .before in
-    let marks = parts .before .before .before .before in
-    let s = marks .before .before .before .before .before .before .before in
-    let g = s .args in
-    let p = parts .part-terms in (
-      passed-as (p .ensures)
-          (high-parted (g .e .now) (g .heads .now) (g .s .now) (g .n) _ (marks .mark .result) (marks .mark .ensures)),
-      (
-        open-from (p .result .count) (s .args .heads .now) (p .last .1 .0) (p .kept .1 .0),
-        open-from (p .result .count * 6) (s .args .s .now) (p .last .1 .1 .0) (p .kept .1 .1 .0),
-      ),
-    )
+    let f = c .before .before .before .before .before .fold-high-in in
+    (f .ensures .0, (f .ensures .1 .0, f .ensures .1 .1 .0))
+
+slice-aggregate-fold-high-in-3 : tie.Need-slice-aggregate-fold-high-in-3
+slice-aggregate-fold-high-in-3 c = search needs
+
+slice-aggregate-fold-high-in-4 : tie.Need-slice-aggregate-fold-high-in-4
+slice-aggregate-fold-high-in-4 c = search needs
+
+fold-high-in-requires-2 : tie.Need-fold-high-in-requires-2
+fold-high-in-requires-2 c κs = search needs
+
+same-length-4 : tie.Need-same-length-4
+same-length-4 c = search needs
+
+same-length-5 : tie.Need-same-length-5
+same-length-5 c = search needs
+
+returns-3 : tie.Need-returns-3
+returns-3 c =
+    let f = c .before .before .before .before .before .fold-high-in2 in
+    (f .ensures .0, (f .ensures .1 .0, f .ensures .1 .1 .0))
 
 pub fold-high-spec : {M : Type 1} → statement M
 fold-high-spec =
@@ -60,8 +71,15 @@ fold-high-spec =
     any-high-requires
     same-length
     returns
-    mark-requires
-    part-terms-requires
+    slice-aggregate-fold-high-in
+    slice-aggregate-fold-high-in-2
+    fold-high-in-requires
     same-length-2
     same-length-3
-    returns-2)
+    returns-2
+    slice-aggregate-fold-high-in-3
+    slice-aggregate-fold-high-in-4
+    fold-high-in-requires-2
+    same-length-4
+    same-length-5
+    returns-3)

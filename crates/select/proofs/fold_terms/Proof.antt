@@ -1,9 +1,8 @@
--- `select::fold_terms` meets its contract: what was marked lies below a bar.
-use borrow.Author.Needs.{needs}
-use Prim.Native.Nat.{_*_}
+-- `select::fold_terms` meets its contract: where the terms are few nothing is folded, and else the arrays have room for them.
 use mathlib.Core.Path.{refl}
-use Rattle.rows.specs.WorkSpace.{open-from}
-use Rattle.select.specs.Stage.{passed-as, bounded-none, terms-parted, terms-few, terms-within}
+use Rattle.select.specs.Stage.{bounded-none, terms-few}
+use native.Mathlib.Omega.{arith}
+use borrow.Author.Needs.{needs}
 use Rattle.select.proofs.fold_terms.Statement.{statement}
 use Rattle.select.proofs.fold_terms.Tie as tie
 
@@ -23,11 +22,19 @@ returns c =
       (refl, refl),
     )
 
-mark-smallest-requires : tie.Need-mark-smallest-requires
-mark-smallest-requires c κs = search needs
+slice-aggregate-fold-terms-in : tie.Need-slice-aggregate-fold-terms-in
+slice-aggregate-fold-terms-in c = search needs
 
-part-terms-requires : tie.Need-part-terms-requires
-part-terms-requires c κs = search needs
+slice-aggregate-fold-terms-in-2 : tie.Need-slice-aggregate-fold-terms-in-2
+slice-aggregate-fold-terms-in-2 c = search needs
+
+slice-aggregate-fold-terms-in-3 : tie.Need-slice-aggregate-fold-terms-in-3
+slice-aggregate-fold-terms-in-3 c = search needs
+
+fold-terms-in-requires : tie.Need-fold-terms-in-requires
+fold-terms-in-requires c κs =
+    let s = c .before .before .before .before .before .before .before .before .before in
+    (s .pre .0, s .pre .1, s .pre .2, s .pre .3, omega arith, search needs, search needs, search needs)
 
 same-length : tie.Need-same-length
 same-length c = search needs
@@ -37,29 +44,50 @@ same-length-2 c = search needs
 
 returns-2 : tie.Need-returns-2
 returns-2 c =
-    let parts = c .before .before .before in
-    let marks = parts .before .before .before .before in
-    let s = marks .before .before .before .before .before in
-    let e = s .args .e .now in
-    let p = parts .part-terms in
-    let v =
-    passed-as (p .ensures)
-    (terms-parted e (s .args .heads .now) (s .args .s .now) (s .args .n) _ (s .args .weights) (s .args .limit)
-    (marks .mark-smallest .ensures)) in (
-      (v, terms-within e (s .args .heads .now) (s .args .s .now) (s .args .n) _ (s .args .weights) (s .args .limit) _ _ _ (v .is)),
-      (
-        open-from (p .result .count) (s .args .heads .now) (p .last .1 .0) (p .kept .1 .0),
-        open-from (p .result .count * 6) (s .args .s .now) (p .last .1 .1 .0) (p .kept .1 .1 .0),
-      ),
-    )
+    let f = c .before .before .before .before .before .before .fold-terms-in in
+    (f .ensures .0, (f .ensures .1 .0, f .ensures .1 .1 .0))
+
+slice-aggregate-fold-terms-in-4 : tie.Need-slice-aggregate-fold-terms-in-4
+slice-aggregate-fold-terms-in-4 c = search needs
+
+slice-aggregate-fold-terms-in-5 : tie.Need-slice-aggregate-fold-terms-in-5
+slice-aggregate-fold-terms-in-5 c = search needs
+
+slice-aggregate-fold-terms-in-6 : tie.Need-slice-aggregate-fold-terms-in-6
+slice-aggregate-fold-terms-in-6 c = search needs
+
+fold-terms-in-requires-2 : tie.Need-fold-terms-in-requires-2
+fold-terms-in-requires-2 c κs =
+    let s = c .before .before .before .before .before .before .before .before .before in
+    (s .pre .0, s .pre .1, s .pre .2, s .pre .3, omega arith, search needs, search needs, search needs)
+
+same-length-3 : tie.Need-same-length-3
+same-length-3 c = search needs
+
+same-length-4 : tie.Need-same-length-4
+same-length-4 c = search needs
+
+returns-3 : tie.Need-returns-3
+returns-3 c =
+    let f = c .before .before .before .before .before .before .fold-terms-in2 in
+    (f .ensures .0, (f .ensures .1 .0, f .ensures .1 .1 .0))
 
 pub fold-terms-spec : {M : Type 1} → statement M
 fold-terms-spec =
     tie.close
     (tie.spec
     returns
-    mark-smallest-requires
-    part-terms-requires
+    slice-aggregate-fold-terms-in
+    slice-aggregate-fold-terms-in-2
+    slice-aggregate-fold-terms-in-3
+    fold-terms-in-requires
     same-length
     same-length-2
-    returns-2)
+    returns-2
+    slice-aggregate-fold-terms-in-4
+    slice-aggregate-fold-terms-in-5
+    slice-aggregate-fold-terms-in-6
+    fold-terms-in-requires-2
+    same-length-3
+    same-length-4
+    returns-3)

@@ -22,24 +22,29 @@ same-length c = search needs
 same-length-2 : tie.Need-same-length-2
 same-length-2 c = search needs
 
+same-length-3 : tie.Need-same-length-3
+same-length-3 c = search needs
+
 returns : tie.Need-returns
 returns c =
     let places = c .before .before .before .before in
     let rows = places .before .before .before in
     let folds = rows .before .before in
-    let marks = folds .before .before .before in
-    let s = marks .before .before .before .before in
-    let v = folds .fold-rows .ensures in
-    record {
-      is = terms-passed (s .args .e .now) (s .args .heads .now) _ (s .args .s .now) _ (s .args .n) (rows .keep-rows .result)
-          (places .keep-places .result)
-          (s .args .gone .now) (marks .mark .result) (marks .mark .ensures) v (places .keep-places .ensures .0 .1)
-          (rows .keep-rows .ensures .0 .1);
-      fewer = rows .keep-rows .ensures .0 .0;
-      ready = ready-after (s .pre .0) (rows .keep-rows .ensures .0 .0) (places .keep-places .kept .0) (rows .keep-rows .kept .0)
-          (places .keep-places .ensures .0 .2 (s .args .e .now) (s .pre .0 .rows)) (rows .keep-rows .ensures .0 .2 _ (s .pre .0 .small));
-      bounded = record { centre = v .centre-small; radii = v .radii-small };
-    }
+    let marks = folds .before .before .before .before .before in
+    let s = marks .before .before .before .before .before .before .before in
+    let v = folds .fold-rows .ensures in (
+      record {
+        is = terms-passed (s .args .e .now) (s .args .heads .now) _ (s .args .s .now) _ (s .args .n) (rows .keep-rows .result)
+            (places .keep-places .result)
+            (s .args .gone .now) (marks .mark .last .1 .1 .1 .1 .0) (marks .mark .ensures .0) v (places .keep-places .ensures .0 .1)
+            (rows .keep-rows .ensures .0 .1);
+        fewer = rows .keep-rows .ensures .0 .0;
+        ready = ready-after (s .pre .0) (rows .keep-rows .ensures .0 .0) (places .keep-places .kept .0) (rows .keep-rows .kept .0)
+            (places .keep-places .ensures .0 .2 (s .args .e .now) (s .pre .0 .rows)) (rows .keep-rows .ensures .0 .2 _ (s .pre .0 .small));
+        bounded = record { centre = v .centre-small; radii = v .radii-small };
+      },
+      marks .mark .kept .1 .1 .1 .1 .0,
+    )
 
 pub part-terms-spec : {M : Type 1} → statement M
 part-terms-spec =
@@ -51,4 +56,5 @@ part-terms-spec =
     keep-places-requires
     same-length
     same-length-2
+    same-length-3
     returns)

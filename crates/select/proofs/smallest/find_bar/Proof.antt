@@ -19,10 +19,11 @@ abbrev μ-loop : tie.MeasureT-loop
 
 loop-holds : tie.Need-loop-holds Inv-loop μ-loop
 loop-holds c =
-    let g = c .args in
+    let s = c .before in
+    let g = s .args in
     let all = count-all (g .z .now) (g .n) in
-    let none = count-top (g .z .now) (g .top) (g .n) (c .pre .4) in
-    (c .pre .2, omega arith, omega (arith, all, c .pre .1), omega (arith, none))
+    let none = count-top (g .z .now) (g .top) (g .n) (s .pre .4) in
+    (s .pre .2, omega arith, omega (arith, all, s .pre .1), omega (arith, none))
 
 add-loop : tie.Need-add-loop Inv-loop μ-loop
 add-loop c = search needs
@@ -39,7 +40,7 @@ count-from-requires c κs = search needs
 returns : tie.Need-returns Inv-loop μ-loop
 returns c =
     let l = c .before .before .before .loop in
-    let g = c .before .before .before .before .args in
+    let g = c .before .before .before .before .before .args in
     (exact-bar (g .z .now) (g .limit) (g .n) _ (sym (c .before .count-from .ensures) ∙ c .if1 .taken), omega (arith, l .inv .1))
 
 loop-less : tie.Need-loop-less Inv-loop μ-loop
@@ -63,7 +64,7 @@ loop-again-2 c =
 returns-2 : tie.Need-returns-2 Inv-loop μ-loop
 returns-2 c =
     let l = c .before .loop in
-    let g = c .before .before .args in
+    let g = c .before .before .before .args in
     let e : l .high ≡ suc (l .low) = omega arith in (
       record { most = omega (arith, ap (λ (T : ℕ). level (sizeAt (g .z .now)) T (places (g .n))) e, l .inv .3); enough = l .inv .2 },
       omega arith,
