@@ -2,21 +2,20 @@
 // smallest terms and generators until a limit is met. Marks and sizes stand in local arrays: for 161 rows, a hull's, where there are no
 // more, so that little is cleared, and else for 860.
 ghost use mathlib.Core.Path.{_≡_};
-ghost use mathlib.Core.List.{List};
 ghost use mathlib.Core.Bool.{false};
 ghost use Prim.Native.Nat.{ℕ, _+_, _*_, _^_, _≤_, _<_};
-ghost use lib.ListN.{length, getD, drop};
-ghost use lib.IntN.{ℤ};
-ghost use Rattle.whole.specs.Tab.{tab, any};
-ghost use Rattle.model.specs.Finish.{tooHigh, size, foldTerm, foldGenerator, foldUntil};
+ghost use lib.ListN.{length, drop};
+ghost use Rattle.whole.specs.Tab.{tab};
+ghost use Rattle.model.specs.Finish.{size, foldTerm, foldGenerator, foldUntil};
 ghost use Rattle.model.proofs.FirstBySize.{termSize};
 ghost use Rattle.rows.specs.WorkSpace.{LeftOpen};
-ghost use Rattle.rows.specs.Rows.{exponentRow, numberRow, terms, Places, Small};
+ghost use Rattle.rows.specs.Rows.{numberRow, terms, Small};
 ghost use Rattle.fold.specs.Marks.{at};
 ghost use Rattle.fold.specs.Folding.{Under, coreOf};
 ghost use Rattle.select.specs.Selected.{parted};
-ghost use Rattle.select.specs.Stage.{test, termAt, withoutHigh, Ready, Passed, GeneratorsPassed};
+ghost use Rattle.select.specs.Stage.{termAt, withoutHigh, Ready, Passed, GeneratorsPassed};
 
+mod marks;
 mod smallest;
 
 // How many are kept, with the centre and radii that make up for the others.
@@ -41,7 +40,7 @@ pub fn fold_high(
     ensures later_places { λ r. ⌜ LeftOpen (drop (r .count) (now (heads .entry))) (drop (r .count) (now (heads .exit))) ⌝ }
     ensures later_rows { λ r. ⌜ LeftOpen (drop (r .count * 6) (now (s .entry))) (drop (r .count * 6) (now (s .exit))) ⌝ }
 {
-    if !any_high(e, heads, n) {
+    if !marks::any_high(e, heads, n) {
         return Kept {
             count: n,
             centre,
@@ -193,7 +192,7 @@ fn fold_high_in(
     ensures later_rows { λ r. ⌜ LeftOpen (drop (r .count * 6) (now (s .entry))) (drop (r .count * 6) (now (s .exit))) ⌝ }
     ensures work_space { λ _. ⌜ LeftOpen (now (gone .entry)) (now (gone .exit)) × LeftOpen (now (even .entry)) (now (even .exit)) ⌝ }
 {
-    mark(e, heads, n, false, gone);
+    marks::mark(e, heads, n, false, gone);
     part_terms(e, heads, s, n, gone, even, centre, radii)
 }
 
@@ -258,20 +257,6 @@ fn fold_generators_in(
     }
 }
 
-// Whether one of the first n terms has an exponent that is too large.
-fn any_high(e: &[u8], heads: &[u16], n: usize) -> bool
-    requires { ⌜ (n ≤ length (now heads)) × Places (now e) (now heads) ⌝ }
-    ensures { λ r. ⌜ ((s : List ℤ) → r ≡ any tooHigh (terms (now (e .entry)) (now (heads .entry)) s n)) ⌝ }
-{
-    for k in 0..n {
-        let x = heads[k] as usize;
-        if fold::is_high(e, x) {
-            return true;
-        }
-    }
-    false
-}
-
 // Those of the first n terms that `gone` marks are folded, and the others kept, in their order. `even` is for the marks of the even ones.
 fn part_terms(
     e: &[u8],
@@ -289,7 +274,7 @@ fn part_terms(
         (parted foldTerm (termAt (now (e .entry)) (now (heads .entry)) (now (s .entry))) n (now (gone .entry)) (coreOf centre radii)) ⌝ }
     ensures work_space { λ _. ⌜ LeftOpen (now (even .entry)) (now (even .exit)) ⌝ }
 {
-    mark(e, heads, n, true, even);
+    marks::mark(e, heads, n, true, even);
     let core = fold::fold_rows(s, n, gone, even, centre, radii);
     let count = fold::keep_rows(s, n, gone);
     fold::keep_places(heads, n, gone);
@@ -299,30 +284,5 @@ fn part_terms(
         count,
         centre: moved,
         radii: wider,
-    }
-}
-
-// The marks of those of the first n terms whose exponents pass that test.
-fn mark(e: &[u8], heads: &[u16], n: usize, even: bool, out: &mut [bool])
-    requires { ⌜ (n ≤ length (now heads)) × (n ≤ length (now out)) × Places (now e) (now heads) ⌝ }
-    ensures { λ _. ⌜ ((k : ℕ) → k < n →
-        at (now (out .exit)) k ≡ test even (exponentRow (now (e .entry)) (getD (now (heads .entry)) k 0))) ⌝ }
-    ensures later_marks { λ _. ⌜ LeftOpen (drop n (now (out .entry))) (drop n (now (out .exit))) ⌝ }
-{
-    for k in 0..n {
-        let x = heads[k] as usize;
-        out[k] = passes(e, x, even);
-    }
-}
-
-// Whether row x of the exponents is all even, or else whether it has one that is too large.
-fn passes(e: &[u8], x: usize, even: bool) -> bool
-    requires { ⌜ x * 12 + 12 ≤ length (now e) ⌝ }
-    ensures { λ r. ⌜ r ≡ test even (exponentRow (now (e .entry)) x) ⌝ }
-{
-    if even {
-        fold::all_even(e, x)
-    } else {
-        fold::is_high(e, x)
     }
 }

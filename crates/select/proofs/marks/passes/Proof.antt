@@ -1,7 +1,7 @@
--- `select::passes` meets its contract, by cases.
+-- `select::marks::passes` meets its contract, by cases.
 use borrow.Author.Needs.{needs}
-use Rattle.select.proofs.passes.Statement.{statement}
-use Rattle.select.proofs.passes.Tie as tie
+use Rattle.select.proofs.marks.passes.Statement.{statement}
+use Rattle.select.proofs.marks.passes.Tie as tie
 
 all-even-requires : tie.Need-all-even-requires
 all-even-requires c κs = search needs

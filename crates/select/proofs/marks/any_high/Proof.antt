@@ -1,4 +1,4 @@
--- `select::any_high` meets its contract: none of the first k terms has such an exponent.
+-- `select::marks::any_high` meets its contract: none of the first k terms has such an exponent.
 use native.Mathlib.Omega.{arith}
 use borrow.Author.Needs.{needs}
 use mathlib.Core.Bool.{false}
@@ -8,8 +8,8 @@ use lib.ListN.{getD}
 use borrow.Author.Count.{below-none, below-more}
 use Rattle.rows.specs.Rows.{exponentRow}
 use Rattle.select.specs.Stage.{test, high-found, high-none}
-use Rattle.select.proofs.any_high.Statement.{statement}
-use Rattle.select.proofs.any_high.Tie as tie
+use Rattle.select.proofs.marks.any_high.Statement.{statement}
+use Rattle.select.proofs.marks.any_high.Tie as tie
 
 abbrev Inv-loop : tie.InvT-loop
 Inv-loop e heads n k₀ k = (k ≤ n) × ((i : ℕ) → i < k → test false (exponentRow e (getD heads i 0)) ≡ false)

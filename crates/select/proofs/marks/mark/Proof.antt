@@ -1,4 +1,4 @@
--- `select::mark` meets its contract: one place more is marked in each turn.
+-- `select::marks::mark` meets its contract: one place more is marked in each turn.
 use native.Mathlib.Omega.{arith}
 use borrow.Author.Needs.{needs}
 use mathlib.Core.Path.{_≡_, refl}
@@ -10,8 +10,8 @@ use Rattle.rows.specs.WorkSpace.{open-from}
 use Rattle.rows.specs.Rows.{exponentRow}
 use Rattle.fold.specs.Marks.{at, marks-more}
 use Rattle.select.specs.Stage.{test}
-use Rattle.select.proofs.mark.Statement.{statement}
-use Rattle.select.proofs.mark.Tie as tie
+use Rattle.select.proofs.marks.mark.Statement.{statement}
+use Rattle.select.proofs.marks.mark.Tie as tie
 
 abbrev Inv-loop : tie.InvT-loop
 Inv-loop e heads n even out₀ k₀ out k =
