@@ -7,7 +7,7 @@ use native.Mathlib.Omega.{arith}
 use Rattle.model.specs.Set.{Zonotope}
 use Rattle.model.specs.Operations.{Box, box, safe}
 use Rattle.model.specs.Body.{givenHalfspaces}
-use Rattle.model.specs.Field.{Kind, start, step, disturbance, independent, tied, reduction, check, hull, unknown}
+use Rattle.model.specs.Field.{Kind, start, step, disturbance, independent, tied, reduction, check, hull, rangedStep, unknown}
 use Rattle.model.specs.Field.{inside, verdict, skipped, Meaning, meaning}
 
 -- the box of its result, a verdict, or, where the kind is unknown, nothing
@@ -26,6 +26,7 @@ answers tied b next s = with-box refl
 answers reduction b next s = with-box refl
 answers check b next s = with-verdict (safe (givenHalfspaces b) s) refl
 answers hull b next s = with-box refl
+answers rangedStep b next s = with-box refl
 answers unknown b next s = with-nothing refl refl
 
 -- a box that is answered is the result's

@@ -81,7 +81,7 @@ rounded-close r {α} {z} x w no-generators from to i h no-radius =
         (ap (λ m. ι (pos m) +ℚ ι (pos 8388608) *ℚ ι (pos u)) no-radius ∙ zero-+ℚ (ι (pos 8388608) *ℚ ι (pos u)))
 
 -- ---- no generators and no radii leave no remainder
-upto-zero : (f : ℕ → ℕ) (n : ℕ) → ((j : ℕ) → f j ≡ 0) → uptoℕ f n ≡ 0
+pub upto-zero : (f : ℕ → ℕ) (n : ℕ) → ((j : ℕ) → f j ≡ 0) → uptoℕ f n ≡ 0
 upto-zero f n h = omega (arith, upto-bound f 0 n (λ j _. omega (arith, h j)))
 
 module _ (p : Step) (s : Zonotope) (no-generators : s .generators ≡ []) (no-radii : (j : ℕ) → radius s j ≡ 0) where

@@ -12,8 +12,8 @@ use lib.ListN.{getD}
 use Rattle.model.specs.Set.{Zonotope}
 use Rattle.model.specs.Operations.{safe}
 use Rattle.model.specs.Body.{dimension, givenHalfspaces}
-use Rattle.model.specs.Field.{Kind, start, step, disturbance, independent, tied, reduction, check, hull, unknown, verdict}
-use Rattle.model.specs.Field.{meaning}
+use Rattle.model.specs.Field.{Kind, start, step, disturbance, independent, tied, reduction, check, hull, rangedStep, unknown}
+use Rattle.model.specs.Field.{verdict, meaning}
 use Rattle.model.specs.Run.{State, noSet, current, tag, body, kindOf, meant, refusal, accepted, after, outcome}
 use Rattle.model.specs.Points.{Vector, Point, InRange}
 use Rattle.model.specs.Motion.{Picks, Moment, beginning, move, valuesAfter, markAfter, follow, InBox, Unsafe, Kept}
@@ -41,6 +41,7 @@ answered-safe tied b next s q w i e u = let z : _≡_ {A = ℕ} 0 1 = cc in omeg
 answered-safe hull b next s q w i e u = let z : _≡_ {A = ℕ} 0 1 = cc in omega arith
 answered-safe independent b next s q w i e u = let z : _≡_ {A = ℕ} 0 1 = cc in omega arith
 answered-safe step b next s q w i e u = let z : _≡_ {A = ℕ} 0 1 = cc in omega arith
+answered-safe rangedStep b next s q w i e u = let z : _≡_ {A = ℕ} 0 1 = cc in omega arith
 answered-safe disturbance b next s q w i e u = let z : _≡_ {A = ℕ} 0 1 = cc in omega arith
 answered-safe reduction b next s q w i e u = let z : _≡_ {A = ℕ} 0 1 = cc in omega arith
 answered-safe unknown b next s q w i e u = let z : _≡_ {A = ℕ} 0 1 = cc in omega arith
@@ -53,6 +54,7 @@ next-counted tied b next s = refl
 next-counted independent b next s = refl
 next-counted hull b next s = refl
 next-counted step b next s = refl
+next-counted rangedStep b next s = refl
 next-counted disturbance b next s = refl
 next-counted reduction b next s = refl
 next-counted check b next s = refl
@@ -224,4 +226,10 @@ begin-good p w = record { sound = begin-sound; counted = refl; ranged = w; agree
 pub enclosed : Enclosed
 enclosed fields p a =
     always p 0 (beginning p) fields (begin-good p (a .values))
-    (λ j. rw (zero-add j) (record { own = a .own j; numbers = a .numbers j; blend = a .blend j; offsets = a .offsets j }))
+    (λ j. rw (zero-add j) (record {
+      own = a .own j;
+      numbers = a .numbers j;
+      blend = a .blend j;
+      offsets = a .offsets j;
+      coefficients = a .coefficients j;
+    }))

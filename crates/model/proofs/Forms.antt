@@ -129,6 +129,20 @@ module _ (l : List ℕ) where
       unfolding quadratic about both
       expand k t g d = simp (dot-+, +-bilinear, bilinear-+, ring)
 
+  -- a sum of coefficients
+  pub quadratic-+ : (q r : ℕ → Vector) (c : ℚ) (a b x : Vector)
+      → quadratic (λ j. q j ⊕ r j) c (a ⊕ b) x ≡ quadratic q c a x +ℚ quadratic r c b x
+  unfolding quadratic bilinearℚ row _⊕_
+  quadratic-+ q r c a b x =
+      ap₂ (λ y z. c *ℚ y +ℚ dotℚ x z) (+-dot a b x) rows ∙ ap (c *ℚ (dotℚ a x +ℚ dotℚ b x) +ℚ_) (dot-+ x (row q x) (row r x))
+      ∙ regroup c (dotℚ a x) (dotℚ b x) (dotℚ x (row q x)) (dotℚ x (row r x))
+    where
+      rows : row (λ j. q j ⊕ r j) x ≡ row q x ⊕ row r x
+      rows = fun-ext (λ j. +-dot (q j) (r j) x)
+
+      regroup : (c a b u v : ℚ) → c *ℚ (a +ℚ b) +ℚ (u +ℚ v) ≡ c *ℚ a +ℚ u +ℚ (c *ℚ b +ℚ v)
+      regroup c a b u v = simp ring
+
   -- ---- the transposed form
   transpose : (q : ℕ → Vector) (u v : Vector) → bilinearℚ q u v ≡ bilinearℚ (λ i j. q j i) v u
   transpose q u v =

@@ -1,6 +1,6 @@
 -- What a run holds: a valid set whose identifiers are below the next fresh one. Each operation leaves such a set where its result is not
 -- too wide.
-use mathlib.Core.Path.{_≡_, sym, _∙_}
+use mathlib.Core.Path.{_≡_, refl, _∙_, ap, subst}
 use mathlib.Core.List.{List, [], _∷_}
 use mathlib.Core.Bool.{false}
 use Prim.Native.Nat.{ℕ, suc, _+_, _<_, _≤_}
@@ -8,6 +8,7 @@ use native.Mathlib.Nat.{le-trans}
 use native.Mathlib.Omega.{arith}
 use lib.ListN.{length, length-append}
 use borrow.Author.Tests.{ltb-false}
+use Rattle.whole.specs.Tab.{tab, length-tab}
 use Rattle.rational.specs.Sum.{All, none, more, All-imp, All-++}
 use Rattle.model.specs.Limits.{maxDimension, maxFactors, maxTerms, maxGenerators}
 use Rattle.model.specs.Set.{Zonotope}
@@ -15,18 +16,20 @@ use Rattle.model.specs.Valid.{badCounts, badOrder, tooWide}
 use Rattle.model.specs.Finish.{finish}
 use Rattle.model.specs.Step as Step
 use Rattle.model.specs.Step.{rounded}
+use Rattle.model.specs.Ranged.{gainingStep}
 use Rattle.model.specs.Hull.{blended, hull}
 use Rattle.model.specs.Operations.{union, joined, tiedSum, renumbered, independentSum, disturb, reduce}
 use Rattle.model.specs.Field.{tooMany, tooManyBlended}
-use Rattle.model.proofs.Vectors.{longer-length}
 use Rattle.model.proofs.Lists.{sublist-all, sublist-length, all-both}
 use Rattle.model.proofs.Shape.{Shaped, Low, Counts, Ordered, Valid, counted, counts-false, ranged, ranges-false, in-order}
 use Rattle.model.proofs.Shape.{order-false}
 use Rattle.model.proofs.Finished.{Ready, ordered-ready, finished}
-use Rattle.model.proofs.StepShape.{rounded-ready, step-ready}
+use Rattle.model.proofs.StepShape.{rounded-ready, raw-ready}
 use Rattle.model.proofs.HullShape.{blended-ready}
 use Rattle.model.proofs.Union.{union-all}
-use Rattle.model.proofs.SumShape.{joined-ready, renumbered-ready, renumbered-dimension, renumbered-in}
+use Rattle.model.proofs.SumShape.{joined-ready, renumbered-ready, renumbered-dimension, renumbered-in, disturbed-shaped}
+use Rattle.model.proofs.SumShape.{disturbed-ready}
+use Rattle.model.proofs.Ranged.{nothing-gained}
 
 pub record Held (next : ℕ) (s : Zonotope) : Type 0 where
   pub shaped : Shaped s
@@ -123,16 +126,23 @@ module _ (weights : List ℕ) {next : ℕ} {s : Zonotope} (h : Held next s) wher
     identifiers-in = h .identifiers-in;
   }) w
 
-  pub step-held : (p : Step.Step) → 0 < p .rows → p .rows ≤ maxDimension → tooWide (Step.step weights p s) ≡ false
-      → Held next (Step.step weights p s)
-  unfolding Step.step Step.rounded Step.raw
-  step-held p some few w = finish-held weights (omega arith) (omega arith) (record {
-    ready = step-ready p (held-ready h);
+  -- a step, whatever its remainders gain
+  pub gaining-held : (gains : ℕ → ℕ) (p : Step.Step) → 0 < p .rows → p .rows ≤ maxDimension
+      → tooWide (gainingStep weights gains p s) ≡ false → Held next (gainingStep weights gains p s)
+  unfolding gainingStep disturb rounded Step.raw
+  gaining-held gains p some few w = finish-held weights (omega arith) (omega arith) (record {
+    ready = rounded-ready (disturbed-ready (tab (p .rows) gains) (length-tab (p .rows) gains) (raw-ready p (held-ready h)));
     dimension-some = some;
     dimension-few = few;
     factors-few = h .counts .factors-few;
     identifiers-in = h .identifiers-in;
   }) w
+
+  pub step-held : (p : Step.Step) → 0 < p .rows → p .rows ≤ maxDimension → tooWide (Step.step weights p s) ≡ false
+      → Held next (Step.step weights p s)
+  step-held p some few w =
+      let e : gainingStep weights (λ i. 0) p s ≡ Step.step weights p s = nothing-gained weights p s (λ i _. refl) in
+      subst (Held next) e (gaining-held (λ i. 0) p some few (ap tooWide e ∙ w))
 
   pub sum-held : {u : Zonotope} → Ready u → u .dimension ≡ s .dimension
       → All (λ k. (0 < k) × (k < next)) (u .identifiers) → tooMany s u ≡ false → tooWide (tiedSum weights s u) ≡ false
@@ -174,12 +184,7 @@ pub disturb-held : {next : ℕ} {s : Zonotope} → Held next s → (r : List ℕ
     → Held next (disturb r s)
 unfolding disturb badCounts badOrder
 disturb-held {s = s} h r e w = record {
-  shaped = record {
-    centre-long = h .shaped .centre-long;
-    radii-long = longer-length _+_ (s .radii) r (h .shaped .radii-long ∙ sym e) ∙ h .shaped .radii-long;
-    rows = h .shaped .rows;
-    generators-long = h .shaped .generators-long;
-  };
+  shaped = disturbed-shaped r e (h .shaped);
   counts = counted (disturb r s) (counts-false (h .counts));
   ordered = in-order (disturb r s) (order-false (h .ordered));
   exponents-in = h .exponents-in;

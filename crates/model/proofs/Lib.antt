@@ -14,9 +14,10 @@
 --     CollectCovers .. FinishCovers        every stage of finishing keeps every point
 --     Aligned, Values, SumPoints           sums and disturbances keep every point
 --     FoldsNothing, Shares, Exact          where nothing is folded, sums have exactly the true points (demand 2)
---     Forms .. StepPoint                   the step keeps every point
+--     Forms .. RangedPoint                 the step keeps every point, a ranged one under all coefficients within its half-widths
 --     HullPoint                            the hull has every point between those of both sets
 --     Close                                a step from a set without independent parts is close to the true image (demand 2)
+--     Ranged                               a ranged step with half-widths of 0 is the step
 --     Ends, BoxPoint, SafePoint            the box holds every point; a region that the check calls safe holds none
 --     Moves, Enclosed                      each kind of field keeps every motion; demand 3, entire
 --     OldFault                             with a next identifier that doesn't rise, demand 3 is false
@@ -27,6 +28,7 @@ pub mod TwoCoordinates
 pub mod Refusals
 pub mod Longest
 pub mod HullRun
+pub mod RangedRun
 pub mod Printed
 pub mod Numerals
 pub mod LastLine
@@ -78,12 +80,15 @@ pub mod Forms
 pub mod WholeForms
 pub mod PartMaps
 pub mod Raw
+pub mod Spans
 pub mod Remainder
 pub mod RawPoint
 pub mod Rounded
 pub mod StepPoint
+pub mod RangedPoint
 pub mod HullPoint
 pub mod Close
+pub mod Ranged
 pub mod Ends
 pub mod BoxPoint
 pub mod SafePoint

@@ -69,9 +69,9 @@ listing = (refl, refl, refl)
 -- an empty input, a lone unknown tag, a lone known one, and a start set that is cut short
 pub refusals :
     (answered [] ≡ said 0 (refused 1 0) ∷ [])
-    × (answered (9 ∷ []) ≡ said 0 (refused 2 0) ∷ [])
+    × (answered (255 ∷ []) ≡ said 0 (refused 2 0) ∷ [])
     × (answered (1 ∷ []) ≡ said 0 (refused 1 0) ∷ [])
-    × (answered ((1 ∷ body) ++ (9 ∷ [])) ≡ line 0 (negsuc 4095) (pos 4096) ∷ said 1 (refused 2 24) ∷ [])
+    × (answered ((1 ∷ body) ++ (255 ∷ [])) ≡ line 0 (negsuc 4095) (pos 4096) ∷ said 1 (refused 2 24) ∷ [])
 unfolding answers outcome after causes firstOf misplaced cut kindOf fields fieldsWithin meaning number word long givenSet givenStep
     givenHalfspaces badRange badOrder tooWide span termSizes generatorSizes rises order sumBy uptoBy tab any all box lowEnd highEnd least
     greatest even

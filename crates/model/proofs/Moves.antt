@@ -17,12 +17,15 @@ use Rattle.model.specs.Limits.{firstFresh, fileIdentifiers, maxTerms, ma
 use Rattle.model.specs.Set.{Zonotope, radius}
 use Rattle.model.specs.Valid.{rises}
 use Rattle.model.specs.Step as Step
+use Rattle.model.specs.Ranged as Ranged
+use Rattle.model.specs.Ranged.{gainingStep}
 use Rattle.model.specs.Operations.{reduce}
 use Rattle.model.specs.Hull as Hull
-use Rattle.model.specs.Body.{givenSet, givenStep, givenRadii, termLimit, generatorLimit}
-use Rattle.model.specs.Field.{Kind, start, step, disturbance, independent, tied, reduction, check, hull, unknown, meaning}
+use Rattle.model.specs.Body.{givenSet, givenStep, givenWidths, givenRadii, termLimit, generatorLimit}
+use Rattle.model.specs.Field.{Kind, start, step, disturbance, independent, tied, reduction, check, hull, rangedStep, unknown}
+use Rattle.model.specs.Field.{meaning}
 use Rattle.model.specs.Points.{Vector, Point, InRange}
-use Rattle.model.specs.Motion.{Picks, bodyPoint, offsetLimit, between, move, valuesAfter}
+use Rattle.model.specs.Motion.{Picks, InWidths, bodyPoint, offsetLimit, between, move, valuesAfter}
 use Rattle.model.specs.Precision.{Renumbers}
 use Rattle.model.proofs.Tests.{all-tab, true-rises}
 use Rattle.model.proofs.Shape.{Valid, Ordered, ranged}
@@ -33,6 +36,7 @@ use Rattle.model.proofs.Values.{same-values}
 use Rattle.model.proofs.SumPoints.{tied-point, independent-point, disturbed-point}
 use Rattle.model.proofs.FinishCovers.{finish-covers}
 use Rattle.model.proofs.StepPoint.{step-point}
+use Rattle.model.proofs.RangedPoint.{ranged-point}
 use Rattle.model.proofs.HullPoint.{hull-point}
 
 -- the picks at field m are inside their limits
@@ -41,6 +45,7 @@ pub record Inside (p : Picks) (m : ℕ) (k : Kind) (b : List ℕ) : Type 0 where
   pub numbers : (j : ℕ) → Within (p .numbers m j) 1ℚ
   pub blend : Within (p .blend m) 1ℚ
   pub offsets : (i : ℕ) → Within (p .offsets m i) (ι (pos (offsetLimit k b i)))
+  pub coefficients : k ≡ rangedStep → InWidths (givenStep b) (givenWidths b) (p .linear m) (p .quadratic m)
 
 -- ---- a body's point is a point of the body
 body-point : (p : Picks) (m : ℕ) (s : Zonotope) (α : Vector) → ((j : ℕ) → Within (p .numbers m j) 1ℚ)
@@ -80,6 +85,7 @@ module _ (b : List ℕ) (p : Picks) (m next : ℕ) (α : Vector) where
   unfolding valuesAfter
   old-value start j h = refl
   old-value step j h = refl
+  old-value rangedStep j h = refl
   old-value disturbance j h = refl
   old-value tied j h = refl
   old-value reduction j h = refl
@@ -105,6 +111,7 @@ module _ (b : List ℕ) (p : Picks) (m next : ℕ) (α : Vector) where
   unfolding valuesAfter
   values-range start w o c j = w j
   values-range step w o c j = w j
+  values-range rangedStep w o c j = w j
   values-range disturbance w o c j = w j
   values-range tied w o c j = w j
   values-range reduction w o c j = w j
@@ -118,7 +125,7 @@ module _ (b : List ℕ) (p : Picks) (m next : ℕ) (s : Zonotope) {α x : Vector
     (agree : Agree p α) where
   pub keeps : (k : Kind) → Inside p m k b → (starts k ≡ false → Held next s × Point s α x) → Passed (meaning k b next s)
       → Point (meaning k b next s .result) (valuesAfter k b p m next α) (move k b p m x)
-  unfolding meaning valuesAfter move offsetLimit Step.step reduce givenStep
+  unfolding meaning valuesAfter move offsetLimit Step.step Ranged.rangedStep gainingStep reduce givenStep
   keeps start i h q =
       let v = body-valid b next s start q in
       same-values (file-agrees p agree v) .0 (body-point p m (givenSet b) (p .values) (i .numbers) (i .offsets))
@@ -146,6 +153,9 @@ module _ (b : List ℕ) (p : Picks) (m next : ℕ) (s : Zonotope) {α x : Vector
   keeps step i h q =
       finish-covers standardWeights maxTerms maxGenerators _ .keeps w
       (step-point (givenStep b) s (sym (dimension-same b next s step q)) w (h refl .1))
+  keeps rangedStep i h q =
+      finish-covers standardWeights maxTerms maxGenerators _ .keeps w
+      (ranged-point (givenStep b) (givenWidths b) s (sym (dimension-same b next s rangedStep q)) w (i .coefficients refl) (h refl .1))
   keeps disturbance i h q = disturbed-point (givenRadii b) (λ j l. i .offsets j) (h refl .1)
   keeps reduction i h q = finish-covers standardWeights (termLimit b) (generatorLimit b) s .keeps w (h refl .1)
   keeps check i h q = h refl .1

@@ -1,10 +1,12 @@
 -- The fault that tore four drivers: where the next identifier does not rise, two independent sums share a factor, and the claim of demand 3
 -- is false. A start set 4096·α, an independent sum with 4096·α and one with -4096·α: the last two cancel, and a motion at 12,288 is left
 -- outside the box -4096 .. 4096.
+use native.Mathlib.Omega.{arith}
 use mathlib.Core.Path.{_≡_, refl, _∙_, ap₂, subst}
 use mathlib.Core.List.{List, [], _∷_, _++_}
 use Prim.Native.Nat.{ℕ, zero, suc, _+_, _<_}
 use lib.Dec.{T, lit<}
+use lib.ListN.{getD}
 use lib.IntN.{ℤ, pos, negsuc}
 use Rattle.whole.specs.Half.{half, halfSize}
 use Rattle.whole.specs.Sum.{sumBy, uptoBy}
@@ -28,8 +30,8 @@ use Rattle.model.specs.Operations.{insertIdentifier, union, align, joine
 use Rattle.model.specs.Operations.{lowEnd, highEnd, box, Box}
 use Rattle.model.specs.Bytes.{number, word}
 use Rattle.model.specs.Body.{givenSet}
-use Rattle.model.specs.Field.{meaning, inside}
-use Rattle.model.specs.Run.{kindOf, firstOf, misplaced, cut, causes, accepted, after, outcome}
+use Rattle.model.specs.Field.{rangedStep, meaning, inside}
+use Rattle.model.specs.Run.{tag, kindOf, firstOf, misplaced, cut, causes, accepted, after, outcome}
 use Rattle.model.specs.Points.{monomial, termsAt, generatorsAt, valueAt}
 use Rattle.model.specs.Motion.{Picks, Allowed, Moment, beginning, move, follow, Kept}
 
@@ -68,7 +70,15 @@ sign (suc zero) = 1ℚ
 sign (suc (suc m)) = negℚ 1ℚ
 
 abbrev picks : Picks
-picks = record { values = λ k. 1ℚ; own = λ m k. sign m; numbers = λ m j. 0ℚ; offsets = λ m i. 0ℚ; blend = λ m. 0ℚ }
+picks = record {
+  values = λ k. 1ℚ;
+  own = λ m k. sign m;
+  numbers = λ m j. 0ℚ;
+  offsets = λ m i. 0ℚ;
+  blend = λ m. 0ℚ;
+  linear = λ m i j. 0ℚ;
+  quadratic = λ m i j l. 0ℚ;
+}
 
 zero-within : (n : ℕ) → Within 0ℚ (ι (pos n))
 zero-within n = within-NonNeg (NonNeg-ι 0) (NonNeg-≤ (NonNeg-ι n))
@@ -78,6 +88,14 @@ sign-within zero = within-one
 sign-within (suc zero) = within-one
 sign-within (suc (suc m)) = within-neg within-one
 
+-- none of the fields is a ranged step
+not-ranged : (m : ℕ) → ¬ (kindOf (tag (getD fields m [])) ≡ rangedStep)
+unfolding kindOf
+not-ranged zero e = let z : _≡_ {A = ℕ} 0 1 = cc in omega arith
+not-ranged (suc zero) e = let z : _≡_ {A = ℕ} 0 1 = cc in omega arith
+not-ranged (suc (suc zero)) e = let z : _≡_ {A = ℕ} 0 1 = cc in omega arith
+not-ranged (suc (suc (suc m))) e = let z : _≡_ {A = ℕ} 0 1 = cc in omega arith
+
 allowed : Allowed picks fields
 allowed = record {
   values = λ k. within-one;
@@ -85,6 +103,7 @@ allowed = record {
   numbers = λ m j. zero-within 1;
   offsets = λ m i. zero-within _;
   blend = λ m. zero-within 1;
+  coefficients = λ m e. absurd (not-ranged m e);
 }
 
 -- ---- where it is after the three fields, and the box that the old edition answers

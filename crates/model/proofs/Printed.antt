@@ -40,8 +40,8 @@ listing-printed = (refl, refl, refl)
 -- an empty input, a lone unknown tag, a start set that is followed by one, and by a field that is cut short
 pub refusals-printed :
     (printed [] ≡ ascii "0 refused 1 0\n")
-    × (printed (9 ∷ []) ≡ ascii "0 refused 2 0\n")
-    × (printed ((1 ∷ body) ++ (9 ∷ [])) ≡ ascii "0 1 -4096 4096\n1 refused 2 24\n")
+    × (printed (255 ∷ []) ≡ ascii "0 refused 2 0\n")
+    × (printed ((1 ∷ body) ++ (255 ∷ [])) ≡ ascii "0 1 -4096 4096\n1 refused 2 24\n")
     × (printed ((1 ∷ body) ++ (5 ∷ 21 ∷ [])) ≡ ascii "0 1 -4096 4096\n1 refused 1 24\n")
 unfolding printed linesFrom closing outcomeLine boxLine refusalLine ends following signedDecimal decimal decimalWithin ascii outcome after
     causes firstOf misplaced cut kindOf fields fieldsWithin meaning number word long givenSet givenStep givenHalfspaces badRange badOrder

@@ -1,10 +1,10 @@
 -- The first stage of a step: the exact image of a point, in raw units, is a point of the raw set at the same factor values.
 use mathlib.Core.Path.{_≡_, refl, sym, _∙_, ap, ap₂, subst, fun-ext}
 use mathlib.Core.List.{List}
-use Prim.Native.Nat.{ℕ, _+_, _<_}
+use Prim.Native.Nat.{ℕ, _<_}
 use native.Mathlib.Omega.{arith}
 use lib.ListN.{length, length-map}
-use lib.IntN.{pos, natAbs}
+use lib.IntN.{pos}
 use Rattle.whole.specs.Round.{scale}
 use Rattle.whole.specs.Tab.{tab, getD-tab}
 use Rattle.rational.specs.Rational.{ℚ, _+ℚ_, _*ℚ_, _-ℚ_, ι, _over_, 1ℚ}
@@ -14,25 +14,28 @@ use Rattle.rational.specs.Order.{gap-eq}
 use Rattle.rational.specs.Bounds.{Within, within-+}
 use Rattle.rational.specs.Near.{Near, near-as}
 use Rattle.rational.specs.Sum.{All}
-use Rattle.model.specs.Set.{Zonotope, at, radius, termSizes, generatorSizes, independentSize}
+use Rattle.model.specs.Set.{Zonotope, at, radius, independentSize}
 use Rattle.model.specs.Step.{Step, raw, rawLinear, remainder}
 use Rattle.model.specs.Points.{Vector, valueAt, Point, InRange}
-use Rattle.model.specs.Motion.{places, image}
-use Rattle.model.proofs.Parts.{termParts, generatorParts, spread, terms-spread, generators-spread, terms-ranged, generators-ranged}
+use Rattle.model.specs.Motion.{places, imageBy, image}
+use Rattle.model.proofs.Parts.{termParts, generatorParts, spread, terms-spread, generators-spread}
 use Rattle.model.proofs.Forms.{_⊕_, dotℚ, row, bilinearℚ, quadratic, expand}
-use Rattle.model.proofs.PartMaps.{coordinates, termParts-sum, generatorParts-sum, spread-within}
+use Rattle.model.proofs.PartMaps.{coordinates}
+use Rattle.model.proofs.Spans.{terms-within, generators-within}
 use Rattle.model.proofs.Raw.{linearRow, formOf, quadraticOf, bilinearOf, aboutOf, raw-value}
 use Rattle.model.proofs.Remainder.{remainder-within}
 
--- the exact image in raw units: 16,777,216·c + 4096·Ax + Q(x, x)
-image-scaled : (p : Step) (i : ℕ) (x : Vector) → ι (pos scale) *ℚ image p x i ≡ ι (pos scale) *ℚ ι (at (p .constant) i) +ℚ quadraticOf p i x
-unfolding image quadratic bilinearℚ row dotℚ
-image-scaled p i x =
+-- the exact image in raw units, under any coefficients: 16,777,216·c + 4096·Ax + Q(x, x)
+pub image-scaled : (p : Step) (A : ℕ → Vector) (Q : ℕ → ℕ → Vector) (i : ℕ) (x : Vector)
+    → ι (pos scale) *ℚ imageBy p A Q x i
+    ≡ ι (pos scale) *ℚ ι (at (p .constant) i) +ℚ quadratic (places (p .columns)) (Q i) (ι (pos 4096)) (A i) x
+unfolding quadratic bilinearℚ row dotℚ
+image-scaled p A Q i x =
+    let form = bilinearℚ (places (p .columns)) (Q i) x x in
     multiplied (ι (pos scale)) (ι (at (p .constant) i)) (pos 1 over 4096) _ (pos 1 over scale) _
-    ∙ ap₂ (λ y z. ι (pos scale) *ℚ ι (at (p .constant) i) +ℚ (y *ℚ dotℚ (places (p .columns)) (linearRow p i) x
-    +ℚ z *ℚ bilinearOf p i x x)) once (over-* (pos 1) scale (omega arith))
-    ∙ ap (λ z. ι (pos scale) *ℚ ι (at (p .constant) i) +ℚ (ι (pos 4096) *ℚ dotℚ (places (p .columns)) (linearRow p i) x +ℚ z))
-    (one-*ℚ (bilinearOf p i x x))
+    ∙ ap₂ (λ y z. ι (pos scale) *ℚ ι (at (p .constant) i) +ℚ (y *ℚ dotℚ (places (p .columns)) (A i) x +ℚ z *ℚ form))
+    once (over-* (pos 1) scale (omega arith))
+    ∙ ap (λ z. ι (pos scale) *ℚ ι (at (p .constant) i) +ℚ (ι (pos 4096) *ℚ dotℚ (places (p .columns)) (A i) x +ℚ z)) (one-*ℚ form)
   where
     multiplied : (u c o d w b : ℚ) → u *ℚ (c +ℚ o *ℚ d +ℚ w *ℚ b) ≡ u *ℚ c +ℚ (u *ℚ o *ℚ d +ℚ u *ℚ w *ℚ b)
     multiplied u c o d w b = simp ring
@@ -47,11 +50,11 @@ raw-near : (p : Step) (s : Zonotope) (i : ℕ) → i < p .rows → {α x : Vecto
     → length bs ≡ length (s .generators) → All (λ b. Within b 1ℚ) bs
     → ((j : ℕ) → j < p .columns → Near (x j) (valueAt s α bs j) (ι (pos (radius s j))))
     → Near (ι (pos scale) *ℚ image p x i) (valueAt (raw p s) α bs i) (ι (pos (remainder p s i)))
-unfolding _⊕_ valueAt termSizes generatorSizes
+unfolding image _⊕_ valueAt
 raw-near p s i below {α} {x} w bs e r near = record {
   off = rest;
-  small = remainder-within p s i (λ j _. t-in j) g-in δ-in;
-  is = image-scaled p i x ∙ ap (λ v. ι (pos scale) *ℚ ι (at (p .constant) i) +ℚ quadraticOf p i v) (fun-ext x-is)
+  small = remainder-within p s i (λ j _. terms-within s j w) g-in δ-in;
+  is = image-scaled p (linearRow p) (formOf p) i x ∙ ap (λ v. ι (pos scale) *ℚ ι (at (p .constant) i) +ℚ quadraticOf p i v) (fun-ext x-is)
       ∙ ap (ι (pos scale) *ℚ ι (at (p .constant) i) +ℚ_) (expand (places (p .columns)) (formOf p i) (ι (pos 4096)) (linearRow p i) K T G δ)
       ∙ regroup _ _ _ _ rest ∙ ap (_+ℚ rest) (sym (raw-value p i s below α bs));
 }
@@ -77,18 +80,12 @@ raw-near p s i below {α} {x} w bs e r near = record {
         ∙ ap (_+ℚ δ j) (ap₂ (λ a b. K j +ℚ a +ℚ b) (terms-spread α (s .identifiers) (s .terms) j) (generators-spread (s .generators) bs j))
         ∙ +ℚ-assoc (K j +ℚ T j) (G j) (δ j)
 
-    t-in : (j : ℕ) → Within (T j) (ι (pos (termSizes s j)))
-    t-in j = subst (λ m. Within (T j) (ι (pos m))) (termParts-sum (λ v. natAbs (at v j)) α (s .identifiers) (s .terms))
-        (spread-within (terms-ranged w (s .identifiers) (s .terms)) j)
-
     δ-in : (j : ℕ) → j < p .columns → Within (δ j) (ι (pos (radius s j)))
     δ-in j h = subst (λ z. Within z (ι (pos (radius s j))))
         (sym (minus-is (x j) (valueAt s α bs j) (near j h .off) (sym (near j h .is)))) (near j h .small)
 
     g-in : (j : ℕ) → j < p .columns → Within ((G ⊕ δ) j) (ι (pos (independentSize s j)))
-    g-in j h = subst (Within (G j +ℚ δ j)) (sym (ι-+ (pos _) (pos (radius s j)))
-        ∙ ap (λ m. ι (pos (m + radius s j))) (generatorParts-sum (λ v. natAbs (at v j)) (s .generators) bs e))
-        (within-+ (spread-within (generators-ranged (s .generators) r) j) (δ-in j h))
+    g-in j h = subst (Within (G j +ℚ δ j)) (sym (ι-+ (pos _) (pos (radius s j)))) (within-+ (generators-within s j e r) (δ-in j h))
 
     regroup : (a b c d f : ℚ) → a +ℚ (b +ℚ c +ℚ d +ℚ f) ≡ a +ℚ b +ℚ c +ℚ d +ℚ f
     regroup a b c d f = simp ring

@@ -133,7 +133,7 @@ pub other-causes :
     (refusal begin [] ≡ some 1)
     × (refusal begin (1 ∷ 4 ∷ 0 ∷ 1 ∷ []) ≡ some 1)
     × (refusal begin (2 ∷ []) ≡ some 2)
-    × (refusal origin (9 ∷ []) ≡ some 2)
+    × (refusal origin (255 ∷ []) ≡ some 2)
     × (refusal origin (power 1 1 (pos 1) (pos 0)) ≡ some 2)
     × (refusal origin (field 3 []) ≡ some 3)
     × (refusal origin (field 3 (1 ∷ 0 ∷ 0 ∷ 0 ∷ 0 ∷ 0 ∷ [])) ≡ some 3)

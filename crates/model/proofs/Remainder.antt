@@ -1,9 +1,9 @@
 -- The remainder of a step bounds what the independent part contributes.
-use mathlib.Core.Path.{_≡_, refl, sym, _∙_, ap, ap₂, subst, fun-ext}
+use mathlib.Core.Path.{_≡_, refl, sym, _∙_, ap, ap₂, fun-ext}
 use Prim.Native.Nat.{ℕ, _+_, _*_, _<_}
 use lib.IntN.{pos, natAbs, _+ℤ_, _*ℤ_}
 use Rattle.whole.specs.Sum.{uptoℕ}
-use Rattle.rational.specs.Rational.{ℚ, _+ℚ_, _*ℚ_, ι}
+use Rattle.rational.specs.Rational.{_+ℚ_, _*ℚ_, ι}
 use Rattle.rational.specs.Ring.{ring, *ℚ-comm}
 use Rattle.rational.specs.Pinned.{ι-+, ι-*}
 use Rattle.rational.specs.Bounds.{Within, within-+, within-*, within-ι}
@@ -15,14 +15,11 @@ use Rattle.model.specs.Motion.{places}
 use Rattle.model.proofs.Forms.{_⊕_, dotℚ, bilinear-double, about-row}
 use Rattle.model.proofs.WholeForms.{ι-+ℕ, ι-*ℕ, All-places, ι-upto, ι-uptoℕ}
 use Rattle.model.proofs.PartMaps.{coordinates}
+use Rattle.model.proofs.Spans.{within-as}
 use Rattle.model.proofs.Raw.{linearRow, formOf, bilinearOf, aboutOf}
 
--- the same bound in other words
-within-as : {x y r b : ℚ} → Within x r → x ≡ y → r ≡ b → Within y b
-within-as {y = y} {r = r} w e f = subst (Within y) f (subst (λ z. Within z r) e w)
-
 -- a sum over places within a sum of naturals
-within-upto : {f : Vector} (r : ℕ → ℕ) (n : ℕ) → ((j : ℕ) → j < n → Within (f j) (ι (pos (r j))))
+pub within-upto : {f : Vector} (r : ℕ → ℕ) (n : ℕ) → ((j : ℕ) → j < n → Within (f j) (ι (pos (r j))))
     → Within (sum f (places n)) (ι (pos (uptoℕ r n)))
 within-upto r n h = within-as (sum-within (All-places n h)) refl (sym (ι-uptoℕ r n))
 

@@ -84,8 +84,8 @@ rounded-ready h = record {
   has-factors = All-map _ (h .has-factors);
 }
 
--- The image of a set that is ready for finishing, or finished, is ready, in raw units and rounded.
-raw-ready : (p : Step) {s : Zonotope} → Ready s → Ready (raw p s)
+-- The image of a set that is ready for finishing, or finished, is ready in raw units.
+pub raw-ready : (p : Step) {s : Zonotope} → Ready s → Ready (raw p s)
 unfolding raw
 raw-ready p {s} r =
     let terms = all-both (r .shaped .rows) (r .has-factors) in
@@ -100,6 +100,3 @@ raw-ready p {s} r =
       identifiers-rise = r .identifiers-rise;
       has-factors = All-imp (λ t h. h .1) image;
     }
-
-pub step-ready : (p : Step) {s : Zonotope} → Ready s → Ready (rounded (raw p s))
-step-ready p r = rounded-ready (raw-ready p r)

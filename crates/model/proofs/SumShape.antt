@@ -13,7 +13,7 @@ use Rattle.whole.specs.Tab.{tab, all, length-tab}
 use Rattle.rational.specs.Sum.{All, All-imp, All-map, All-++}
 use Rattle.model.specs.Set.{Zonotope}
 use Rattle.model.specs.Valid.{factorless}
-use Rattle.model.specs.Operations.{union, align, aligned, joined, renumbered}
+use Rattle.model.specs.Operations.{union, align, aligned, joined, renumbered, disturb}
 use Rattle.model.proofs.Vectors.{longer-length}
 use Rattle.model.proofs.Lists.{Rising, nothing, first, all-both}
 use Rattle.model.proofs.Tests.{all-tab, true-rises}
@@ -114,3 +114,21 @@ pub renumbered-in : (next : ℕ) (u : Zonotope)
     → All (λ k. (next ≤ k) × (k < next + length (u .identifiers))) (renumbered next u .identifiers)
 unfolding renumbered
 renumbered-in next u = all-tab _ _ (λ i l. (omega arith, omega arith))
+
+-- ---- disturbed
+pub disturbed-shaped : (r : List ℕ) {s : Zonotope} → length r ≡ s .dimension → Shaped s → Shaped (disturb r s)
+unfolding disturb
+disturbed-shaped r {s} e h = record {
+  centre-long = h .centre-long;
+  radii-long = longer-length _+_ (s .radii) r (h .radii-long ∙ sym e) ∙ h .radii-long;
+  rows = h .rows;
+  generators-long = h .generators-long;
+}
+
+pub disturbed-ready : (r : List ℕ) {s : Zonotope} → length r ≡ s .dimension → Ready s → Ready (disturb r s)
+unfolding disturb
+disturbed-ready r e h = record {
+  shaped = disturbed-shaped r e (h .shaped);
+  identifiers-rise = h .identifiers-rise;
+  has-factors = h .has-factors;
+}

@@ -5,6 +5,7 @@ use lib.IntN.{ℤ, natAbs}
 use Rattle.whole.specs.Tab.{tab}
 use Rattle.model.specs.Set.{Zonotope}
 use Rattle.model.specs.Step.{Step}
+use Rattle.model.specs.Ranged.{Widths}
 use Rattle.model.specs.Operations.{Halfspace}
 use Rattle.model.specs.Bytes.{byte, number, long, words}
 
@@ -78,6 +79,23 @@ module _ (b : List ℕ) where
     linear = words b linearFrom (stepRows * stepColumns);
     quadratic = words b quadraticFrom (stepRows * stepColumns * stepColumns);
   }
+
+  -- ---- a ranged step: a step, then the half-widths of A's entries and of Q's
+  abbrev pub quadraticWidthsFrom : ℕ
+  quadraticWidthsFrom = stepLength + 4 * (stepRows * stepColumns)
+
+  abbrev pub rangedLength : ℕ
+  rangedLength = quadraticWidthsFrom + 4 * (stepRows * stepColumns * stepColumns)
+
+  -- the half-widths as they stand, before it is asked whether one is negative
+  abbrev pub linearWidthWords : List ℤ
+  linearWidthWords = words b stepLength (stepRows * stepColumns)
+
+  abbrev pub quadraticWidthWords : List ℤ
+  quadraticWidthWords = words b quadraticWidthsFrom (stepRows * stepColumns * stepColumns)
+
+  unfoldable pub givenWidths : Widths
+  givenWidths = record { linear = map natAbs linearWidthWords; quadratic = map natAbs quadraticWidthWords }
 
   -- ---- a disturbance: n, radii
   abbrev pub disturbanceWords : List ℤ

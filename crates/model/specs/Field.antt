@@ -4,24 +4,25 @@ use mathlib.Core.List.{List}
 use mathlib.Core.Bool.{Bool, false, not, _||_}
 use Prim.Native.Nat.{ℕ, _+_, _*_}
 use lib.Dec.{ltb, eqb}
-use lib.ListN.{length}
+use lib.ListN.{length, getD}
 use lib.IntN.{ℤ, pos, natAbs}
 use lib.Signed.{ltZ}
-use Rattle.whole.specs.Tab.{any}
+use Rattle.whole.specs.Tab.{tab, any}
 use Rattle.model.specs.Limits.{maxDimension, maxFactors, maxTerms, maxGenerators, maxHalfspaces, maxEntry, maxConstant}
 use Rattle.model.specs.Limits.{maxDisturbance, maxBound, fileIdentifiers, standardWeights}
-use Rattle.model.specs.Set.{Zonotope}
+use Rattle.model.specs.Set.{Zonotope, at}
 use Rattle.model.specs.Valid.{badRange, badOrder, tooWide}
 use Rattle.model.specs.Step as Step
+use Rattle.model.specs.Ranged as Ranged
 use Rattle.model.specs.Operations.{tiedSum, independentSum, renumbered, union, disturb, reduce, Box, box, safe}
 use Rattle.model.specs.Hull as Hull
 use Rattle.model.specs.Body.{dimension, factors, termCount, generatorCount, setLength, radiusWords, givenSet, stepRows, stepColumns}
 use Rattle.model.specs.Body.{stepLength, givenStep, disturbanceWords, givenRadii, termLimit, generatorLimit, halfspaceCount}
-use Rattle.model.specs.Body.{halfspaceAt, givenHalfspaces}
+use Rattle.model.specs.Body.{rangedLength, linearWidthWords, quadraticWidthWords, givenWidths, halfspaceAt, givenHalfspaces}
 
--- tags 1 to 8 have a kind; any other is unknown
+-- tags 1 to 9 have a kind; any other is unknown
 pub data Kind : Type 0 where
-  start step disturbance independent tied reduction check hull unknown : Kind
+  start step disturbance independent tied reduction check hull rangedStep unknown : Kind
 
 -- a box, a verdict (safe or unknown), or a refusal with its number and the position of the field's first byte;
 -- a field after a refusal is skipped
@@ -69,6 +70,21 @@ negative z = ltZ z (pos 0)
 abbrev pub differs : ℕ → ℕ → Bool
 differs m n = not (eqb m n)
 
+-- an entry of a step is out of range
+abbrev pub badStepRange : Step.Step → Bool
+badStepRange p = any (beyond maxConstant) (p .constant) || any (beyond maxEntry) (p .linear) || any (beyond maxEntry) (p .quadratic)
+
+-- an entry and its half-width are too large together
+unfoldable pub beyondWith : List ℤ → List ℕ → Bool
+beyondWith entries widths = any (λ k. ltb maxEntry (natAbs (at entries k) + getD widths k 0)) (tab (length entries) (λ k. k))
+
+abbrev pub badWidthRange : Step.Step → Ranged.Widths → Bool
+badWidthRange p d = beyondWith (p .linear) (d .linear) || beyondWith (p .quadratic) (d .quadratic)
+
+-- a half-width is negative
+abbrev pub negativeWidth : List ℕ → Bool
+negativeWidth b = any negative (linearWidthWords b) || any negative (quadraticWidthWords b)
+
 -- a field whose body is a set, by what the kind adds
 abbrev pub ofSet : List ℕ → Bool → Bool → Zonotope → ℕ → Meaning
 ofSet b wrongDimension manyFactors result next = record {
@@ -81,6 +97,22 @@ ofSet b wrongDimension manyFactors result next = record {
   disordered = badOrder (givenSet b);
   wide = tooWide (givenSet b);
   manyFactors = manyFactors;
+  result = result;
+  next = next;
+  outcome = inside (box result);
+}
+
+-- a field whose body begins with a step, by what the kind adds
+abbrev pub ofStepBody : List ℕ → ℕ → Bool → Zonotope → ℕ → Zonotope → Meaning
+ofStepBody b bytes outOfRange s next result = record {
+  countBytes = 2;
+  wrongCounts = badDimension (stepRows b) || badDimension (stepColumns b);
+  bytes = bytes;
+  wrongDimension = differs (stepColumns b) (s .dimension);
+  outOfRange = outOfRange;
+  disordered = false;
+  wide = false;
+  manyFactors = false;
   result = result;
   next = next;
   outcome = inside (box result);
@@ -105,22 +137,12 @@ meaning independent b next s =
 meaning hull b next s =
     ofSet b (differs (dimension b) (s .dimension)) (tooManyBlended s (givenSet b))
     (Hull.hull standardWeights next s (givenSet b)) (next + 1)
-meaning step b next s = let result = Step.step standardWeights (givenStep b) s in record {
-  countBytes = 2;
-  wrongCounts = badDimension (stepRows b) || badDimension (stepColumns b);
-  bytes = stepLength b;
-  wrongDimension = differs (stepColumns b) (s .dimension);
-  outOfRange =
-      any (beyond maxConstant) (givenStep b .constant)
-      || any (beyond maxEntry) (givenStep b .linear)
-      || any (beyond maxEntry) (givenStep b .quadratic);
-  disordered = false;
-  wide = false;
-  manyFactors = false;
-  result = result;
-  next = next;
-  outcome = inside (box result);
-}
+meaning step b next s =
+    ofStepBody b (stepLength b) (badStepRange (givenStep b)) s next (Step.step standardWeights (givenStep b) s)
+meaning rangedStep b next s =
+    ofStepBody b (rangedLength b)
+    (badStepRange (givenStep b) || (negativeWidth b || badWidthRange (givenStep b) (givenWidths b))) s next
+    (Ranged.rangedStep standardWeights (givenStep b) (givenWidths b) s)
 meaning disturbance b next s = let result = disturb (givenRadii b) s in record {
   countBytes = 1;
   wrongCounts = badDimension (dimension b);

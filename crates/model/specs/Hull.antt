@@ -8,10 +8,8 @@ use lib.ListN.{length, replicate}
 use lib.IntN.{ℤ, pos, negℤ, _*ℤ_}
 use Rattle.whole.specs.Round.{scale}
 use Rattle.whole.specs.Tab.{tab}
-use Rattle.model.specs.Limits.{maxTerms, maxGenerators}
 use Rattle.model.specs.Set.{Term, Zonotope, independentSize}
-use Rattle.model.specs.Finish.{finish}
-use Rattle.model.specs.Step.{rounded}
+use Rattle.model.specs.Step.{settled}
 use Rattle.model.specs.Operations.{joined}
 
 -- ---- 1. raw numbers, in 1/16,777,216
@@ -56,4 +54,4 @@ blended next s u =
 
 -- ---- 2. each is rounded, and the result finished
 unfoldable pub hull : List ℕ → ℕ → Zonotope → Zonotope → Zonotope
-hull weights next s u = finish weights maxTerms maxGenerators (rounded (blended next s u))
+hull weights next s u = settled weights (blended next s u)

@@ -4,6 +4,7 @@
 --     Finish       what becomes of every result: collect, drop, fold, reduce
 --     Step         the polynomial step: raw numbers, rounding, the new radius
 --     Operations   sums, disturbance, reduction, box, check
+--     Ranged       the step whose entries are known within half-widths
 --     Hull         the hull with a second set
 --     Bytes, Body  numbers in a run file, and what the body of a field says
 --     Field        the kinds of field: what each asks and gives
@@ -23,6 +24,7 @@ pub mod Valid
 pub mod Finish
 pub mod Step
 pub mod Operations
+pub mod Ranged
 pub mod Hull
 pub mod Bytes
 pub mod Body

@@ -9,14 +9,14 @@ use lib.ListN.{length}
 use lib.IntN.{ℤ}
 use Rattle.whole.specs.Tab.{any}
 use Rattle.model.specs.Limits.{recordIdentifiers, firstFresh, lastFresh, maxTerms, maxGenerators, maxHalfspaces, maxEntry}
-use Rattle.model.specs.Limits.{maxConstant}
 use Rattle.model.specs.Limits.{maxDisturbance, maxBound, standardWeights}
 use Rattle.model.specs.Set.{Zonotope}
 use Rattle.model.specs.Valid.{badCounts, badRange, badOrder, tooWide}
 use Rattle.model.specs.Step as Step
 use Rattle.model.specs.Operations.{tiedSum, independentSum, renumbered, disturb, reduce}
+use Rattle.model.specs.Ranged.{Widths, rangedStep}
 use Rattle.model.specs.Hull.{hull}
-use Rattle.model.specs.Field.{badDimension, beyond, differs, tooMany, tooManyBlended}
+use Rattle.model.specs.Field.{badDimension, beyond, differs, badStepRange, badWidthRange, tooMany, tooManyBlended}
 use Rattle.model.specs.Run.{Cause, _if_, firstOf}
 
 -- a record as it is read: its set, and whether a place that the counts leave unused isn't 0
@@ -116,10 +116,6 @@ badStepLengths p =
     || differs (length (p .linear)) (p .rows * p .columns)
     || differs (length (p .quadratic)) (p .rows * p .columns * p .columns)
 
--- 6: an entry of a step is out of range
-abbrev pub badStepRange : Step.Step → Bool
-badStepRange p = any (beyond maxConstant) (p .constant) || any (beyond maxEntry) (p .linear) || any (beyond maxEntry) (p .quadratic)
-
 -- a step's own numbers, for a set of this dimension: 4, 3, 5, 6
 abbrev pub ofStep : Step.Step → ℕ → List Cause
 ofStep p dimension =
@@ -129,8 +125,28 @@ ofStep p dimension =
     ∷ (6 if badStepRange p)
     ∷ []
 
--- a step: 13 for a work slice that is too short comes before everything
+-- a call with work slices, by its own causes and its result: 13 for a slice that is too short comes before everything
+abbrev pub workRefusal : Bool → Given → List Cause → Zonotope → Option ℕ
+workRefusal short g own result = firstOf ((13 if short) ∷ ofFirst g ++ (own ++ ((10 if tooWide result) ∷ [])))
+
 unfoldable pub stepRefusal : Bool → Step.Step → Given → Option ℕ
-stepRefusal short p g =
-    firstOf ((13 if short) ∷ ofFirst g
-    ++ (ofStep p (g .set .dimension) ++ ((10 if tooWide (Step.step standardWeights p (g .set))) ∷ [])))
+stepRefusal short p g = workRefusal short g (ofStep p (g .set .dimension)) (Step.step standardWeights p (g .set))
+
+-- 3: a list of half-widths hasn't the length that the step's counts give
+abbrev pub badWidthLengths : Step.Step → Widths → Bool
+badWidthLengths p d =
+    differs (length (d .linear)) (p .rows * p .columns) || differs (length (d .quadratic)) (p .rows * p .columns * p .columns)
+
+-- a ranged step's own numbers: the half-widths' causes stand after the step's of the same number
+abbrev pub ofRangedStep : Step.Step → Widths → ℕ → List Cause
+ofRangedStep p d dimension =
+    (4 if badStepCounts p)
+    ∷ (3 if badStepLengths p)
+    ∷ (3 if badWidthLengths p d)
+    ∷ (5 if differs (p .columns) dimension)
+    ∷ (6 if badStepRange p)
+    ∷ (6 if badWidthRange p d)
+    ∷ []
+
+unfoldable pub rangedRefusal : Bool → Step.Step → Widths → Given → Option ℕ
+rangedRefusal short p d g = workRefusal short g (ofRangedStep p d (g .set .dimension)) (rangedStep standardWeights p d (g .set))

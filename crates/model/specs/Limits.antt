@@ -61,7 +61,7 @@ abbrev pub lastField : ℕ
 lastField = 4096
 
 abbrev pub lastTag : ℕ
-lastTag = 8
+lastTag = 9
 
 -- ---- reduction
 -- what a coordinate weighs in a term's size, by its place: our models alternate position and speed

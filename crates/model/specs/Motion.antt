@@ -10,14 +10,16 @@ use Rattle.whole.specs.Round.{scale}
 use Rattle.whole.specs.Tab.{tab}
 use Rattle.rational.specs.Rational.{ℚ, _+ℚ_, _-ℚ_, _*ℚ_, ι, _over_, ½, 0ℚ, 1ℚ, _≤ℚ_}
 use Rattle.rational.specs.Bounds.{Within}
+use Rattle.rational.specs.Near.{Near}
 use Rattle.rational.specs.Sum.{sum, All}
 use Rattle.model.specs.Set.{Zonotope, at, radius}
 use Rattle.model.specs.Step.{Step, linearAt, quadraticAt}
+use Rattle.model.specs.Ranged.{Widths, linearWidth, quadraticWidth}
 use Rattle.model.specs.Operations.{Box, Halfspace}
 use Rattle.model.specs.Limits.{firstFresh}
-use Rattle.model.specs.Body.{dimension, factors, givenSet, givenStep, givenRadii, givenHalfspaces}
-use Rattle.model.specs.Field.{Kind, start, step, disturbance, independent, tied, reduction, check, hull, unknown, inside}
-use Rattle.model.specs.Field.{verdict}
+use Rattle.model.specs.Body.{dimension, factors, givenSet, givenStep, givenWidths, givenRadii, givenHalfspaces}
+use Rattle.model.specs.Field.{Kind, start, step, disturbance, independent, tied, reduction, check, hull, rangedStep, unknown}
+use Rattle.model.specs.Field.{inside, verdict}
 use Rattle.model.specs.Run.{State, begin, current, tag, body, kindOf, accepted, after, outcome}
 use Rattle.model.specs.Points.{Vector, valueAt, Point, InRange}
 
@@ -33,6 +35,9 @@ pub record Picks : Type 0 where
   pub offsets : ℕ → Vector
   -- the blend of a hull: 1 for the current set's point, -1 for the body's
   pub blend : ℕ → ℚ
+  -- the coefficients of a ranged step, in 1/4096: of A by rows and columns, and of Q by forms, rows and columns
+  pub linear : ℕ → ℕ → Vector
+  pub quadratic : ℕ → ℕ → ℕ → Vector
 
 -- the largest offset that a field allows in coordinate i; a field that uses none allows 0
 unfoldable pub offsetLimit : Kind → List ℕ → ℕ → ℕ
@@ -42,9 +47,17 @@ offsetLimit tied b i = radius (givenSet b) i
 offsetLimit hull b i = radius (givenSet b) i
 offsetLimit disturbance b i = getD (givenRadii b) i 0
 offsetLimit step b i = 0
+offsetLimit rangedStep b i = 0
 offsetLimit reduction b i = 0
 offsetLimit check b i = 0
 offsetLimit unknown b i = 0
+
+-- coefficients A and Q are within the half-widths d of the entries of the step p
+pub record InWidths (p : Step) (d : Widths) (A : ℕ → Vector) (Q : ℕ → ℕ → Vector) : Type 0 where
+  pub linear : (i j : ℕ) → i < p .rows → j < p .columns
+      → Near (A i j) (ι (linearAt p i j)) (ι (pos (linearWidth (p .columns) d i j)))
+  pub quadratic : (i j l : ℕ) → i < p .rows → j < p .columns → l < p .columns
+      → Near (Q i j l) (ι (quadraticAt p i j l)) (ι (pos (quadraticWidth (p .columns) d i j l)))
 
 -- every pick is inside its limit
 pub record Allowed (p : Picks) (fields : List (List ℕ)) : Type 0 where
@@ -53,6 +66,8 @@ pub record Allowed (p : Picks) (fields : List (List ℕ)) : Type 0 where
   pub numbers : (m j : ℕ) → Within (p .numbers m j) 1ℚ
   pub blend : (m : ℕ) → Within (p .blend m) 1ℚ
   pub offsets : (m i : ℕ) → let f = getD fields m [] in Within (p .offsets m i) (ι (pos (offsetLimit (kindOf (tag f)) (body f) i)))
+  pub coefficients : (m : ℕ) → let f = getD fields m [] in
+      kindOf (tag f) ≡ rangedStep → InWidths (givenStep (body f)) (givenWidths (body f)) (p .linear m) (p .quadratic m)
 
 -- ---- where a motion goes, in exact arithmetic
 -- the body's point at these factor values and at the picks of field m
@@ -63,12 +78,16 @@ bodyPoint p m s α i = valueAt s α (tab (length (s .generators)) (p .numbers m)
 abbrev pub places : ℕ → List ℕ
 places n = tab n (λ j. j)
 
--- the exact image under a step: c_i + A_i·x/4096 + Q_i(x, x)/16,777,216
-unfoldable pub image : Step → Vector → Vector
-image s x i =
+-- the exact image under a step with the coefficients A and Q in place of its own: c_i + A_i·x/4096 + Q_i(x, x)/16,777,216
+abbrev pub imageBy : Step → (ℕ → Vector) → (ℕ → ℕ → Vector) → Vector → Vector
+imageBy s A Q x i =
     ι (at (s .constant) i)
-    +ℚ pos 1 over 4096 *ℚ sum (λ j. ι (linearAt s i j) *ℚ x j) (places (s .columns))
-    +ℚ pos 1 over scale *ℚ sum (λ j. x j *ℚ sum (λ l. ι (quadraticAt s i j l) *ℚ x l) (places (s .columns))) (places (s .columns))
+    +ℚ pos 1 over 4096 *ℚ sum (λ j. A i j *ℚ x j) (places (s .columns))
+    +ℚ pos 1 over scale *ℚ sum (λ j. x j *ℚ sum (λ l. Q i j l *ℚ x l) (places (s .columns))) (places (s .columns))
+
+-- under a step
+unfoldable pub image : Step → Vector → Vector
+image s x i = imageBy s (λ i j. ι (linearAt s i j)) (λ i j l. ι (quadraticAt s i j l)) x i
 
 -- the point between x and y at the blend c: x where it is 1, y where it is -1
 abbrev pub between : ℚ → Vector → Vector → Vector
@@ -78,6 +97,7 @@ between c x y i = ½ *ℚ ((1ℚ +ℚ c) *ℚ x i +ℚ (1ℚ -ℚ c) *ℚ y i)
 unfoldable pub move : Kind → List ℕ → Picks → ℕ → Vector → Vector
 move start b p m x i = bodyPoint p m (givenSet b) (p .values) i
 move step b p m x i = image (givenStep b) x i
+move rangedStep b p m x i = imageBy (givenStep b) (p .linear m) (p .quadratic m) x i
 move tied b p m x i = x i +ℚ bodyPoint p m (givenSet b) (p .values) i
 move independent b p m x i = x i +ℚ bodyPoint p m (givenSet b) (p .own m) i
 move hull b p m x i = between (p .blend m) x (bodyPoint p m (givenSet b) (p .values)) i
@@ -96,6 +116,7 @@ valuesAfter independent b p m next α k = cond (ltb k next) (α k) (p .own m (ge
 valuesAfter hull b p m next α k = withFresh next (p .blend m) α k
 valuesAfter start b p m next α k = α k
 valuesAfter step b p m next α k = α k
+valuesAfter rangedStep b p m next α k = α k
 valuesAfter tied b p m next α k = α k
 valuesAfter disturbance b p m next α k = α k
 valuesAfter reduction b p m next α k = α k
@@ -108,6 +129,7 @@ markAfter independent b mark = mark + factors b
 markAfter hull b mark = mark + 1
 markAfter start b mark = mark
 markAfter step b mark = mark
+markAfter rangedStep b mark = mark
 markAfter tied b mark = mark
 markAfter disturbance b mark = mark
 markAfter reduction b mark = mark

@@ -1,5 +1,6 @@
 -- How precise the operations are, and what is claimed of that: document 01's demand 2. Where nothing is folded, sums and disturbances have
--- exactly the true points, and a step stays close to the true image. The theorems are in proofs/Exact.antt and proofs/Close.antt.
+-- exactly the true points, and a step stays close to the true image. The theorems are in proofs/Exact.antt, proofs/Close.antt and
+-- proofs/Ranged.antt.
 use mathlib.Core.Path.{_≡_}
 use mathlib.Core.List.{List, []}
 use mathlib.Core.Bool.{true}
@@ -17,6 +18,7 @@ use Rattle.model.specs.Set.{Zonotope, radius}
 use Rattle.model.specs.Valid.{rises}
 use Rattle.model.specs.Finish.{collectTerms, dropZeroTerms, dropZeroGenerators}
 use Rattle.model.specs.Step.{Step, raw, rounded, inexactAt, step}
+use Rattle.model.specs.Ranged.{Widths, rangedStep}
 use Rattle.model.specs.Operations.{joined, tiedSum, renumbered, independentSum, disturb}
 use Rattle.model.specs.Points.{Vector, valueAt, Point, InRange}
 use Rattle.model.specs.Motion.{image}
@@ -78,3 +80,13 @@ abbrev pub StepClose : Type 0
 StepClose = (p : Step) (s : Zonotope) → s .generators ≡ [] → ((j : ℕ) → radius s j ≡ 0) → (weights : List ℕ)
     → FoldsNothing maxTerms maxGenerators (rounded (raw p s)) → (α z : Vector) → InRange α → Point (step weights p s) α z
     → (i : ℕ) → i < p .rows → Near (z i) (image p (valueAt s α []) i) (ι (pos (inexactAt (raw p s) i)) +ℚ ½)
+
+-- ---- ranged steps
+-- every half-width is 0
+pub record NoWidths (d : Widths) : Type 0 where
+  pub linear : All (λ w. w ≡ 0) (d .linear)
+  pub quadratic : All (λ w. w ≡ 0) (d .quadratic)
+
+-- a ranged step with half-widths of 0 is the step, and only there is it claimed to be close
+abbrev pub ZeroWidths : Type 0
+ZeroWidths = (weights : List ℕ) (p : Step) (d : Widths) (s : Zonotope) → NoWidths d → rangedStep weights p d s ≡ step weights p s

@@ -9,7 +9,7 @@ use Rattle.model.specs.Limits.{firstFresh, lastField, lastTag}
 use Rattle.model.specs.Set.{Zonotope}
 use Rattle.model.specs.Valid.{tooWide}
 use Rattle.model.specs.Bytes.{byte, number}
-use Rattle.model.specs.Field.{Kind, start, step, disturbance, independent, tied, reduction, check, hull, unknown}
+use Rattle.model.specs.Field.{Kind, start, step, disturbance, independent, tied, reduction, check, hull, rangedStep, unknown}
 use Rattle.model.specs.Field.{Outcome, refused, skipped, Meaning, meaning}
 
 -- ---- the state: the current set, if any; the next fresh identifier (document 01: the mark); how many fields were accepted; whether one
@@ -45,7 +45,8 @@ body f = take (bodyLength f) (drop 3 f)
 unfoldable pub kindOf : ℕ → Kind
 kindOf t =
     cond (eqb t 1) start (cond (eqb t 2) step (cond (eqb t 3) disturbance (cond (eqb t 4) independent
-    (cond (eqb t 5) tied (cond (eqb t 6) reduction (cond (eqb t 7) check (cond (eqb t 8) hull unknown)))))))
+    (cond (eqb t 5) tied (cond (eqb t 6) reduction (cond (eqb t 7) check (cond (eqb t 8) hull
+    (cond (eqb t 9) rangedStep unknown))))))))
 
 -- what the field means in this state
 abbrev pub meant : State → List ℕ → Meaning

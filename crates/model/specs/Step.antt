@@ -119,5 +119,9 @@ rounded s = record {
 }
 
 -- ---- 3. the result is finished
+-- what becomes of an image in raw units
+abbrev pub settled : List ℕ → Zonotope → Zonotope
+settled weights s = finish weights maxTerms maxGenerators (rounded s)
+
 unfoldable pub step : List ℕ → Step → Zonotope → Zonotope
-step weights p s = finish weights maxTerms maxGenerators (rounded (raw p s))
+step weights p s = settled weights (raw p s)

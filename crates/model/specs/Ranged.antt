@@ -1,0 +1,38 @@
+-- The ranged step: a step whose entries of A and Q are known within half-widths. With half-widths of 0 it is the step (`ZeroWidths` in
+-- Precision.antt).
+use mathlib.Core.List.{List}
+use Prim.Native.Nat.{ℕ, _+_, _*_}
+use lib.ListN.{getD}
+use Rattle.whole.specs.Sum.{uptoℕ}
+use Rattle.whole.specs.Tab.{tab}
+use Rattle.model.specs.Set.{Zonotope, span}
+use Rattle.model.specs.Step.{Step, raw, settled}
+use Rattle.model.specs.Operations.{disturb}
+
+-- beside a step: the half-widths of A's entries by rows, then of Q's by forms and rows, each as one list, in 1/4096
+pub record Widths : Type 0 where
+  pub linear : List ℕ
+  pub quadratic : List ℕ
+
+-- from n coordinates
+module _ (n : ℕ) (d : Widths) where
+  -- of A_ij, and of Q_ijl
+  abbrev pub linearWidth : ℕ → ℕ → ℕ
+  linearWidth i j = getD (d .linear) (i * n + j) 0
+
+  abbrev pub quadraticWidth : ℕ → ℕ → ℕ → ℕ
+  quadraticWidth i j l = getD (d .quadratic) ((i * n + j) * n + l) 0
+
+  -- what they add to coordinate i in raw units, with M the spans of the set:
+  -- the sum over j of 4096·(A_ij's)·M_j, plus that over j, l of (Q_ijl's)·M_j·M_l
+  unfoldable pub gain : Zonotope → ℕ → ℕ
+  gain s i =
+      uptoℕ (λ j. 4096 * (linearWidth i j * span s j)) n
+      + uptoℕ (λ j. uptoℕ (λ l. quadraticWidth i j l * (span s j * span s l)) n) n
+
+-- a step whose remainders gain these numbers, by coordinate, before they are rounded
+unfoldable pub gainingStep : List ℕ → (ℕ → ℕ) → Step → Zonotope → Zonotope
+gainingStep weights gains p s = settled weights (disturb (tab (p .rows) gains) (raw p s))
+
+unfoldable pub rangedStep : List ℕ → Step → Widths → Zonotope → Zonotope
+rangedStep weights p d s = gainingStep weights (gain (p .columns) d s) p s
