@@ -12,6 +12,7 @@ use Rattle.whole.specs.Tab.{tab, tab-cong, map-tab, tab-getD, getD-tab, getD-ta
 use Rattle.rows.specs.Rows.{rowsOf}
 use Rattle.model.specs.Set.{Term, Zonotope, at}
 use Rattle.model.specs.Step.{Step, own, paired, pairs, raw, rawCentre, rawLinear, rawSquare, rawPair, remainder, inexactAt, roundedRadius}
+use Rattle.model.specs.Operations.{disturb}
 use Rattle.forms.specs.Tables.{rowOf}
 use Rattle.raw.specs.Sums.{sum-tab}
 use Rattle.raw.specs.Append.{wideTerm, term-same}
@@ -20,6 +21,7 @@ use Rattle.raw.specs.Parts.{wideVectors}
 use Rattle.image.specs.Rounding.{inexactIn, inexactOf, roundTerm, round-zero, zero-exact, inexact-small, counted-rows}
 use Rattle.image.specs.KeptRows.{kept-counted}
 use Rattle.image.specs.Remainder.{Below, tab-below, roundedUp}
+use Rattle.image.specs.Gaining.{gainedImage, gained-radius}
 
 -- ---- rounding and the wide form
 at-round : (v : List ℤ) (i : ℕ) → at (map round v) i ≡ round (at v i)
@@ -146,6 +148,10 @@ module _ (p : Step) (z : Zonotope) (i : ℕ) (past : p .rows ≤ i) where
       ∙ ap₂ _+_ (none-mapped (own p z) (λ t. none-at (rawLinear p z (t .coefficients))) (z .terms)) (none-paired (z .terms))))
       (none-generated (z .generators))
 
-  pub none-rounded : roundedRadius (raw p z) i ≡ 0
-  unfolding roundedRadius raw
-  none-rounded = ap₂ roundedUp (getD-tab-past (p .rows) (remainder p z) 0 i past) none-inexact
+  pub none-rounded : (gains : List ℕ) → roundedRadius (gainedImage gains p z) i ≡ 0
+  unfolding roundedRadius inexactAt disturb raw
+  none-rounded gains =
+      ap₂ roundedUp
+      (gained-radius gains p z i
+      ∙ ap₂ _+_ (getD-tab-past (p .rows) (remainder p z) 0 i past) (getD-tab-past (p .rows) (λ j. getD gains j 0) 0 i past))
+      none-inexact

@@ -1,7 +1,7 @@
 -- Six counters, one for each coordinate, to which the inexact roundings of rows are added.
 use mathlib.Core.List.{List}
-use mathlib.Core.Path.{_≡_, refl, sym, _∙_, ap}
-use Prim.Native.Nat.{ℕ, zero, suc, _+_, _<_, _≤_}
+use mathlib.Core.Path.{_≡_, sym, _∙_, ap}
+use Prim.Native.Nat.{ℕ, _+_, _<_, _≤_}
 use native.Mathlib.Nat.{zero-add}
 use native.Mathlib.Omega.{arith}
 use lib.IntN.{ℤ}
@@ -13,7 +13,7 @@ use Rattle.whole.specs.Write.{write-after}
 use Rattle.forms.specs.Tables.{rowOf}
 use Rattle.forms.specs.Filling.{Filling}
 use Rattle.image.specs.Rounding.{inexactIn, inexactOf, inexact-small}
-use Rattle.image.specs.Remainder.{Below, tab-below}
+use Rattle.image.specs.Remainder.{Below, tab-below, zeros-at}
 
 -- counter x grown by f x
 abbrev pub grown : List ℕ → (ℕ → ℕ) → List ℕ
@@ -62,14 +62,6 @@ module _ (ws : List ℕ) (w : List ℤ) (rows : ℕ) where
       h .counted ∙ ap (λ (n : ℕ). grown ws (inexactIn w n)) e
 
 -- ---- the centre, the terms' rows and the generators
-zeros : (n x : ℕ) → _≡_ {A = ℕ} (getD (replicate n 0) x 0) 0
-zeros zero x = refl
-zeros (suc n) zero = refl
-zeros (suc n) (suc x) = zeros n x
-
-pub zeros-below : (K : ℕ) → Below K (replicate 6 0)
-zeros-below K = record { below = λ x. omega (arith, zeros 6 x) }
-
 pub counts-from : (w centre vectors : List ℤ) (rows generators : ℕ) (a b c : List ℕ) → a ≡ grown (replicate 6 0) (inexactIn centre 1)
     → b ≡ grown a (inexactIn w rows) → c ≡ grown b (inexactIn vectors generators) → c ≡ tab 6 (inexactOf w rows centre vectors generators)
 unfolding inexactOf
@@ -79,4 +71,4 @@ counts-from w centre vectors rows generators a b c ea eb ec =
     (ap (λ (v : List ℕ). getD v x 0) eb ∙ getD-tab 6 (λ y. getD a y 0 + inexactIn w rows y) 0 x h
     ∙ ap (_+ inexactIn w rows x)
     (ap (λ (v : List ℕ). getD v x 0) ea ∙ getD-tab 6 (λ y. getD (replicate 6 0) y 0 + inexactIn centre 1 y) 0 x h
-    ∙ ap (_+ inexactIn centre 1 x) (zeros 6 x) ∙ zero-add (inexactIn centre 1 x))))
+    ∙ ap (_+ inexactIn centre 1 x) (zeros-at 6 x) ∙ zero-add (inexactIn centre 1 x))))

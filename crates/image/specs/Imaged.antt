@@ -1,7 +1,7 @@
 -- What `of_step` promises: rows, centre, generators and radii are those of the definition's rounded image, in wide form.
 use mathlib.Core.List.{List, map}
 use mathlib.Core.Path.{_≡_, sym, _∙_, ap, ap₂, subst}
-use Prim.Native.Nat.{ℕ, _*_, _<_, _≤_}
+use Prim.Native.Nat.{ℕ, _+_, _*_, _<_, _≤_}
 use native.Mathlib.Omega.{arith}
 use lib.IntN.{ℤ, pos}
 use lib.ListN.{length, getD}
@@ -11,6 +11,7 @@ use Rattle.whole.specs.Write.{write, write-all}
 use Rattle.rows.specs.Rows.{rowsOf, Small}
 use Rattle.model.specs.Set.{Term, Zonotope, at}
 use Rattle.model.specs.Step.{Step, raw, rawCentre, rawLinear, remainder, inexactAt, roundedRadius, rounded}
+use Rattle.model.specs.Operations.{disturb}
 use Rattle.zonotope.specs.Record.{view}
 use Rattle.zonotope.specs.declared.PolyZonotope.{PolyZonotope}
 use Rattle.forms.specs.Tables.{tab-small}
@@ -24,19 +25,22 @@ use Rattle.raw.specs.Terms.{RawTerms}
 use Rattle.image.specs.KeptRows.{kept-round}
 use Rattle.image.specs.Rounding.{inexactOf, roundTerm, round-small, rounded-rows, rounded-small, bounded-mono}
 use Rattle.image.specs.Remainder.{Below, roundedUp, imageLimit}
+use Rattle.image.specs.Gaining.{Gaining, gainedImage, gained-radius}
 use Rattle.image.specs.Radii.{NewRadii}
 use Rattle.raw.specs.Parts.{wideVectors, RawCentre, RawGenerators}
 use Rattle.image.specs.Padded.{same-terms, same-centre, same-remainder, same-generators}
 use Rattle.image.specs.Counted.{round-terms, round-vector, round-vectors, counted, same-inexact, none-rounded}
 use Rattle.image.specs.declared.Image.{Image}
 
--- r, with the first rows of the slices e and w, is the rounded image of s under p in wide form; e₀ and w₀ are the slices as they were
-pub record Imaged (p : Step) (s : PolyZonotope) (e₀ : List ℕ) (w₀ : List ℤ) (r : Image) (e : List ℕ) (w : List ℤ) : Type 0 where
+-- r, with the first rows of the slices e and w, is the rounded image of s under p in wide form, where S gains these numbers; e₀ and w₀
+-- are the slices as they were
+pub record Imaged (p : Step) (gains : List ℕ) (s : PolyZonotope) (e₀ : List ℕ) (w₀ : List ℤ) (r : Image) (e : List ℕ) (w : List ℤ) :
+    Type 0 where
   pub inside : r .rows ≤ 860
-  pub terms : Kept (rowsOf e w (r .rows)) (map wideTerm (rounded (raw p (view s)) .terms))
-  pub centre : r .centre ≡ tab 6 (at (rounded (raw p (view s)) .centre))
-  pub generators : r .generators ≡ wideVectors (rounded (raw p (view s)) .generators)
-  pub radii : r .radii ≡ tab 6 (λ i. getD (rounded (raw p (view s)) .radii) i 0)
+  pub terms : Kept (rowsOf e w (r .rows)) (map wideTerm (rounded (gainedImage gains p (view s)) .terms))
+  pub centre : r .centre ≡ tab 6 (at (rounded (gainedImage gains p (view s)) .centre))
+  pub generators : r .generators ≡ wideVectors (rounded (gainedImage gains p (view s)) .generators)
+  pub radii : r .radii ≡ tab 6 (λ i. getD (rounded (gainedImage gains p (view s)) .radii) i 0)
   pub small-terms : Bounded imageLimit (r .rows * 6) w
   pub small-centre : Small imageLimit (r .centre)
   pub small-generators : Small imageLimit (r .generators)
@@ -67,13 +71,16 @@ module _ (c a q lines both : List ℤ) (s : PolyZonotope) (ok : InSpan s) (eb : 
     (rounded-centre : centre′ ≡ write centre 0 (λ x. round (at centre x)) 6)
     (vectors vectors′ : List ℤ) (raw-vectors : RawGenerators lines s vectors)
     (rounded-vectors : vectors′ ≡ write vectors 0 (λ x. round (at vectors x)) 144)
-    (counts radii : List ℕ) (counting : counts ≡ tab 6 (inexactOf w r centre vectors (s .generators)))
-    (new-radii : NewRadii lines q s counts radii) where
+    (gains counts radii : List ℕ) (counting : counts ≡ tab 6 (inexactOf w r centre vectors (s .generators)))
+    (new-radii : NewRadii lines q s gains counts radii) where
   abbrev P : Step
   P = six c a q
 
   abbrev z : Zonotope
   z = raw P (view s)
+
+  abbrev gained : Zonotope
+  gained = gainedImage gains P (view s)
 
   centre-is : centre ≡ z .centre
   unfolding raw
@@ -93,16 +100,21 @@ module _ (c a q lines both : List ℤ) (s : PolyZonotope) (ok : InSpan s) (eb : 
   count-at i h =
       ap (λ (ns : List ℕ). getD ns i 0) counting
       ∙ getD-tab 6 (inexactOf w r centre vectors (s .generators)) 0 i h
-      ∙ counted z e w centre vectors r (s .generators) long (images-length P s) (counts-in s ok .3) (raw-terms .rows c a q eb el) centre-wide
-      (raw-vectors .numbers c a q el) i h
+      ∙ counted z e w centre vectors r (s .generators) long (images-length P s) (counts-in s ok .3) (raw-terms .rows c a q eb el)
+      centre-wide (raw-vectors .numbers c a q el) i h
 
-  radius-at : (i : ℕ) → i < 6 → roundedUp (remainder P (view s) i) (getD counts i 0) ≡ getD (tab 6 (roundedRadius z)) i 0
-  unfolding roundedRadius raw
+  radius-at : (i : ℕ) → i < 6
+      → roundedUp (remainder P (view s) i + getD gains i 0) (getD counts i 0) ≡ getD (tab 6 (roundedRadius gained)) i 0
+  unfolding roundedRadius inexactAt disturb raw
   radius-at i h =
-      ap₂ roundedUp (sym (getD-tab 6 (remainder P (view s)) 0 i h)) (count-at i h) ∙ sym (getD-tab 6 (roundedRadius z) 0 i h)
+      ap₂ roundedUp
+      (sym (gained-radius gains P (view s) i
+      ∙ ap₂ _+_ (getD-tab 6 (remainder P (view s)) 0 i h) (getD-tab 6 (λ j. getD gains j 0) 0 i h)))
+      (count-at i h)
+      ∙ sym (getD-tab 6 (roundedRadius gained) 0 i h)
 
-  pub imaged : Imaged P s e₀ w₀ (record { rows = r; centre = centre′; generators = vectors′; radii = radii }) e w′
-  unfolding rounded raw
+  pub imaged : Imaged P gains s e₀ w₀ (record { rows = r; centre = centre′; generators = vectors′; radii = radii }) e w′
+  unfolding rounded disturb raw
   imaged = record {
     inside = raw-terms .inside;
     terms =
@@ -114,7 +126,7 @@ module _ (c a q lines both : List ℤ) (s : PolyZonotope) (ok : InSpan s) (eb : 
         vectors-rounded
         ∙ ap (λ (v : List ℤ). tab 144 (λ x. round (at v x))) (raw-vectors .numbers c a q el)
         ∙ round-vectors (z .generators);
-    radii = new-radii .radii c a el ∙ tab-cong 6 _ (λ i. getD (tab 6 (roundedRadius z)) i 0) radius-at;
+    radii = new-radii .radii c a el ∙ tab-cong 6 _ (λ i. getD (tab 6 (roundedRadius gained)) i 0) radius-at;
     small-terms = rw rounded-terms (bounded-mono (rounded-small e w r long (bounded-mono (raw-terms .numbers) (omega arith)))
         (omega arith));
     small-centre = rounded-all-small 6 centre centre′ (raw-centre .small) centre-rounded;
@@ -129,35 +141,46 @@ module _ (c a q lines both : List ℤ) (s : PolyZonotope) (ok : InSpan s) (eb : 
   }
 
 -- ---- on the step's own coordinates
-module _ (p : Step) (shaped : StepShaped p) (s : PolyZonotope) (ok : InSpan s) where
+module _ (p : Step) (shaped : StepShaped p) (gains : List ℕ) (gaining : Gaining (p .rows) gains) (s : PolyZonotope) (ok : InSpan s) where
   abbrev y : Zonotope
-  y = raw (wide p) (view s)
+  y = gainedImage gains (wide p) (view s)
 
   abbrev x : Zonotope
-  x = raw p (view s)
+  x = gainedImage gains p (view s)
 
   few : length (x .generators) ≤ 24
+  unfolding disturb
   few = rw (images-length p s) (counts-in s ok .3)
 
   as-many : length (y .generators) ≡ length (x .generators)
+  unfolding disturb
   as-many = images-length (wide p) s ∙ sym (images-length p s)
 
   radius-same : (i : ℕ) → i < 6 → getD (tab 6 (roundedRadius y)) i 0 ≡ getD (tab (p .rows) (roundedRadius x)) i 0
-  unfolding roundedRadius
+  unfolding roundedRadius disturb
   radius-same i h =
       getD-tab 6 (roundedRadius y) 0 i h
       ∙ both
-      ∙ same-row 0 (roundedRadius x) (p .rows) 6 (λ j l m. none-rounded p (view s) j m) i h
+      ∙ same-row 0 (roundedRadius x) (p .rows) 6 (λ j l m. none-rounded p (view s) j m gains) i h
     where
+      gain : ℕ → ℕ
+      gain j = getD gains j 0
+
+      same-gain : getD (tab 6 gain) i 0 ≡ getD (tab (p .rows) gain) i 0
+      same-gain = getD-tab 6 gain 0 i h ∙ same-row 0 gain (p .rows) 6 (λ j l m. gaining .past j m) i h
+
       both : roundedRadius y i ≡ roundedRadius x i
       both =
-          ap₂ roundedUp (same-remainder p shaped (view s) i h)
+          ap₂ roundedUp
+          (gained-radius gains (wide p) (view s) i
+          ∙ ap₂ _+_ (same-remainder p shaped (view s) i h) same-gain
+          ∙ sym (gained-radius gains p (view s) i))
           (same-inexact y x (same-terms p shaped (view s)) (same-generators p shaped (view s)) as-many few i h
           (same-centre p shaped (view s) i h))
 
-  pub imaged-narrow : (e₀ : List ℕ) (w₀ : List ℤ) (r : Image) (e : List ℕ) (w : List ℤ) → Imaged (wide p) s e₀ w₀ r e w →
-      Imaged p s e₀ w₀ r e w
-  unfolding rounded raw
+  pub imaged-narrow : (e₀ : List ℕ) (w₀ : List ℤ) (r : Image) (e : List ℕ) (w : List ℤ) → Imaged (wide p) gains s e₀ w₀ r e w →
+      Imaged p gains s e₀ w₀ r e w
+  unfolding rounded disturb raw
   imaged-narrow e₀ w₀ r e w d = record {
     inside = d .inside;
     terms = kept-to (d .terms)

@@ -4,6 +4,7 @@
 --     Rounding      rows rounded in place, and the count of inexact roundings
 --     KeptRows      rows of zeros that are left out
 --     Remainder     S and the new radii
+--     Gaining       what S gains from outside the step
 --     Counting      six counters to which rows are added
 --     Radii         they are the definition's
 --     Padded        the image under the wide step is that under the step
@@ -14,6 +15,7 @@ pub mod Summing
 pub mod Rounding
 pub mod KeptRows
 pub mod Remainder
+pub mod Gaining
 pub mod Counting
 pub mod Radii
 pub mod Padded

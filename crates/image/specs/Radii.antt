@@ -20,12 +20,14 @@ use Rattle.raw.specs.Zeros.{constant-at}
 use Rattle.raw.specs.Accepted.{InSpan}
 use Rattle.raw.specs.Unused.{centre-row, radius-row}
 use Rattle.raw.specs.Limits.{rowSizes, term-sizes, generator-sizes, sums-small}
-use Rattle.image.specs.Remainder.{Below, spread, slopeSum, crossSum, roundedUp, imageLimit, tab-below, slope-small, cross-small}
-use Rattle.image.specs.Remainder.{rounded-up-small, remainder-from}
+use Rattle.image.specs.Remainder.{Below, spread, slopeSum, crossSum, roundedUp, newRadius, imageLimit, tab-below, slope-small}
+use Rattle.image.specs.Remainder.{cross-small, rounded-up-small, remainder-from}
+use Rattle.image.specs.Gaining.{gainLimit}
 
--- the new radii, from S and the counts of inexact roundings, for any step with these lines and forms
-pub record NewRadii (lines q : List ℤ) (s : PolyZonotope) (counts r : List ℕ) : Type 0 where
-  pub radii : (c a : List ℤ) → lines ≡ lineTable a (bothTable q) (s .centre) → r ≡ tab 6 (λ i. roundedUp (remainder (six c a q) (view s) i) (getD counts i 0))
+-- the new radii, from S with what it gains and the counts of inexact roundings, for any step with these lines and forms
+pub record NewRadii (lines q : List ℤ) (s : PolyZonotope) (gains counts r : List ℕ) : Type 0 where
+  pub radii : (c a : List ℤ) → lines ≡ lineTable a (bothTable q) (s .centre)
+      → r ≡ tab 6 (λ i. roundedUp (remainder (six c a q) (view s) i + getD gains i 0) (getD counts i 0))
   pub small : Below imageLimit r
 
 no-rows : (xs : List ℤ) (i : ℕ) → rowSizes xs 0 i ≡ 0
@@ -68,38 +70,41 @@ module _ (s : PolyZonotope) (ok : InSpan s) where
     abbrev pub termSpread : ℕ → ℕ
     termSpread = spread (s .coefficients) (s .terms) none
 
-    terms-are : (j : ℕ) → j < 6 → termSpread j ≡ termSizes (view s) j
+    pub terms-are : (j : ℕ) → j < 6 → termSpread j ≡ termSizes (view s) j
     terms-are j h = ap₂ _+_ (term-sizes s ok j h) (constant-at none empty j) ∙ add-zero (termSizes (view s) j)
 
     pub terms-below : Below 1048576 (tab 6 termSpread)
     terms-below = tab-below 1048576 6 termSpread (λ j h. rw (terms-are j h) (sums-small s ok j .1))
 
     -- the radii from the three
-    module _ (q lines : List ℤ) (d r w counts : List ℕ) (ed : d ≡ tab 6 termSpread)
+    module _ (q lines : List ℤ) (d r w gains counts : List ℕ) (ed : d ≡ tab 6 termSpread)
         (er : r ≡ tab 6 independentSpread) (ew : w ≡ tab 6 radiusSpread) where
       place : (xs : List ℕ) (f g : ℕ → ℕ) → xs ≡ tab 6 f → ((j : ℕ) → j < 6 → f j ≡ g j) → (j : ℕ) → j < 6 → getD xs j 0 ≡ g j
       place xs f g e h j l = ap (λ (ys : List ℕ). getD ys j 0) e ∙ getD-tab 6 f 0 j l ∙ h j l
 
       abbrev found : ℕ → ℕ
-      found i = roundedUp (slopeSum lines w i + crossSum q d r i) (getD counts i 0)
+      found = newRadius lines q d r w gains counts
 
-      found-is : (c a : List ℤ) → lines ≡ lineTable a (bothTable q) (s .centre) → (i : ℕ) → i < 6 → found i ≡ roundedUp (remainder (six c a q) (view s) i) (getD counts i 0)
+      found-is : (c a : List ℤ) → lines ≡ lineTable a (bothTable q) (s .centre) → (i : ℕ) → i < 6
+          → found i ≡ roundedUp (remainder (six c a q) (view s) i + getD gains i 0) (getD counts i 0)
       found-is c a el i h =
-          ap (λ (n : ℕ). roundedUp n (getD counts i 0))
+          ap (λ (n : ℕ). roundedUp (n + getD gains i 0) (getD counts i 0))
           (ap (λ (ls : List ℤ). slopeSum ls w i + crossSum q d r i) el
           ∙ remainder-from c a q (s .centre) (view s) (centre-row s ok) d r w (place d termSpread (λ j. termSizes (view s) j) ed terms-are)
           (place r independentSpread (λ j. generatorSizes (view s) j + radius (view s) j) er independent-are)
           (place w radiusSpread (λ j. radius (view s) j) ew radii-are) i h)
 
-      found-small : Small 32768 q → Small tableLimit lines → Below 4294967296 counts → (i : ℕ) → found i ≤ imageLimit
-      found-small hq hl hc i =
+      found-small : Small 32768 q → Small tableLimit lines → Below gainLimit gains → Below 4294967296 counts → (i : ℕ)
+          → found i ≤ imageLimit
+      found-small hq hl hg hc i =
           let n : slopeSum lines w i ≤ 2594917810295537664 = slope-small lines w hl (rw ew radii-below) i in
           let m : crossSum q d r i ≤ 3891110078048108544 = cross-small q d r hq (rw ed terms-below) (rw er independent-below) i in
-          rounded-up-small (slopeSum lines w i + crossSum q d r i) (getD counts i 0) (omega arith) (hc .below i)
+          rounded-up-small (slopeSum lines w i + crossSum q d r i + getD gains i 0) (getD counts i 0) (omega (arith, hg .below i))
+          (hc .below i)
 
-      pub new-radii : Small 32768 q → Small tableLimit lines → Below 4294967296 counts → (new : List ℕ) → new ≡ tab 6 found →
-          NewRadii lines q s counts new
-      new-radii hq hl hc new e = record {
-        radii = λ c a el. e ∙ tab-cong 6 found (λ i. roundedUp (remainder (six c a q) (view s) i) (getD counts i 0)) (found-is c a el);
-        small = rw e (tab-below imageLimit 6 found (λ i _. found-small hq hl hc i));
+      pub new-radii : Small 32768 q → Small tableLimit lines → Below gainLimit gains → Below 4294967296 counts → (new : List ℕ)
+          → new ≡ tab 6 found → NewRadii lines q s gains counts new
+      new-radii hq hl hg hc new e = record {
+        radii = λ c a el. e ∙ tab-cong 6 found _ (found-is c a el);
+        small = rw e (tab-below imageLimit 6 found (λ i _. found-small hq hl hg hc i));
       }

@@ -1,12 +1,12 @@
 -- S and the new radii, in the shapes in which the code computes them, and how large they are.
 use mathlib.Core.List.{List}
-use mathlib.Core.Path.{_≡_, _∙_, ap₂}
-use Prim.Native.Nat.{ℕ, _+_, _*_, _/_, _<_, _≤_}
+use mathlib.Core.Path.{_≡_, refl, _∙_, ap₂}
+use Prim.Native.Nat.{ℕ, zero, suc, _+_, _*_, _/_, _<_, _≤_}
 use native.Mathlib.Nat.{mul-le-mul}
 use native.Mathlib.Decide.{decLt}
 use native.Mathlib.Omega.{arith}
 use lib.IntN.{ℤ, natAbs}
-use lib.ListN.{getD}
+use lib.ListN.{getD, replicate}
 use Rattle.whole.specs.Round.{scale}
 use Rattle.whole.specs.Sum.{uptoℕ, upto-cong, upto-bound}
 use Rattle.whole.specs.Tab.{tab, getD-tab, getD-tab-past}
@@ -49,6 +49,10 @@ crossSum q d r i = uptoℕ (crossRow q d r i) 6
 abbrev pub roundedUp : ℕ → ℕ → ℕ
 roundedUp s count = (s + 16777215) / scale + (count + 1) / 2
 
+-- that of coordinate i, where S is a sum of lines, a sum of cells and what it gains
+abbrev pub newRadius : List ℤ → List ℤ → List ℕ → List ℕ → List ℕ → List ℕ → List ℕ → ℕ → ℕ
+newRadius lines q d r w gains counts i = roundedUp (slopeSum lines w i + crossSum q d r i + getD gains i 0) (getD counts i 0)
+
 -- no rounded number and no new radius is larger
 abbrev pub imageLimit : ℕ
 imageLimit = 1099511627776
@@ -56,6 +60,14 @@ imageLimit = 1099511627776
 -- ---- sizes
 pub rounded-up-small : (n count : ℕ) → n ≤ 9223372036854775808 → count ≤ 4294967296 → roundedUp n count ≤ imageLimit
 rounded-up-small n count h l = omega arith
+
+pub zeros-at : (n x : ℕ) → _≡_ {A = ℕ} (getD (replicate n 0) x 0) 0
+zeros-at zero x = refl
+zeros-at (suc n) zero = refl
+zeros-at (suc n) (suc x) = zeros-at n x
+
+pub zeros-below : (K n : ℕ) → Below K (replicate n 0)
+zeros-below K n = record { below = λ x. omega (arith, zeros-at n x) }
 
 pub tab-below : (K n : ℕ) (f : ℕ → ℕ) → ((x : ℕ) → x < n → f x ≤ K) → Below K (tab n f)
 tab-below K n f h = record { below = λ x. go x (decLt x n) }

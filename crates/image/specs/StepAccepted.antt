@@ -12,8 +12,8 @@ use Rattle.model.proofs.Tests.{or-false}
 use Rattle.rows.specs.Rows.{Small}
 use Rattle.model.specs.Limits.{maxEntry, maxConstant}
 use Rattle.model.specs.Step.{Step}
-use Rattle.model.specs.Field.{badDimension, beyond, differs}
-use Rattle.model.specs.Library.{badStepCounts, badStepLengths, badStepRange}
+use Rattle.model.specs.Field.{badDimension, beyond, differs, badStepRange}
+use Rattle.model.specs.Library.{badStepCounts, badStepLengths}
 use Rattle.forms.specs.Wide.{StepShaped}
 use Rattle.raw.specs.Tests.{none-beyond}
 

@@ -7,6 +7,8 @@ ghost use Rattle.forms.specs.Numbers.{six};
 ghost use Rattle.forms.specs.RowsTo.{RowsTo};
 ghost use Rattle.raw.specs.Accepted.{InSpan};
 ghost use Rattle.image.specs.StepAccepted.{StepAccepted, stepOf};
+ghost use Rattle.image.specs.Remainder.{Below};
+ghost use Rattle.image.specs.Gaining.{gainLimit, Gaining};
 ghost use Rattle.image.specs.Imaged.{Imaged};
 
 pub mod remainder;
@@ -22,7 +24,7 @@ pub struct Image {
     pub radii: [u64; 6],
 }
 
-// The image of s under the step x' = c + Ax + Q(x, x) to m coordinates from n.
+// The image of s under the step x' = c + Ax + Q(x, x) to m coordinates from n, where S of each coordinate gains a number.
 pub fn of_step(
     m: usize,
     n: usize,
@@ -30,18 +32,19 @@ pub fn of_step(
     a: &[i32],
     q: &[i32],
     s: PolyZonotope,
+    gains: &[u64; 6],
     w: &mut [i64],
     e: &mut [u8],
 ) -> Image
-    requires { ⌜ StepAccepted (stepOf m n (now c) (now a) (now q)) × InSpan s
+    requires { ⌜ StepAccepted (stepOf m n (now c) (now a) (now q)) × InSpan s × Gaining m (now gains)
         × (5160 ≤ length (now w)) × (10320 ≤ length (now e)) ⌝ }
-    ensures { λ r. ⌜ Imaged (stepOf m n (now (c .entry)) (now (a .entry)) (now (q .entry))) s (now (e .entry)) (now (w .entry)) r
-        (now (e .exit)) (now (w .exit)) ⌝ }
+    ensures { λ r. ⌜ Imaged (stepOf m n (now (c .entry)) (now (a .entry)) (now (q .entry))) (now (gains .entry)) s
+        (now (e .entry)) (now (w .entry)) r (now (e .exit)) (now (w .exit)) ⌝ }
 {
     let constant = forms::wide_constant(c);
     let linear = forms::wide_linear(a, n);
     let quadratic = forms::wide_quadratic(q, n);
-    of_wide_step(m, &constant, &linear, &quadratic, s, w, e)
+    of_wide_step(m, &constant, &linear, &quadratic, s, gains, w, e)
 }
 
 // The image under a step on six coordinates that has rows and forms for the first m only.
@@ -51,13 +54,14 @@ fn of_wide_step(
     a: &[i32; 36],
     q: &[i32; 216],
     s: PolyZonotope,
+    gains: &[u64; 6],
     w: &mut [i64],
     e: &mut [u8],
 ) -> Image
     requires { ⌜ (m ≤ 6) × Small 1048576 (now c) × Small 32768 (now a) × Small 32768 (now q) × RowsTo m (now a) × RowsTo (m * 6) (now q)
-        × InSpan s × (5160 ≤ length (now w)) × (10320 ≤ length (now e)) ⌝ }
-    ensures { λ r. ⌜ Imaged (six (now (c .entry)) (now (a .entry)) (now (q .entry))) s (now (e .entry)) (now (w .entry)) r
-        (now (e .exit)) (now (w .exit)) ⌝ }
+        × InSpan s × Below gainLimit (now gains) × (5160 ≤ length (now w)) × (10320 ≤ length (now e)) ⌝ }
+    ensures { λ r. ⌜ Imaged (six (now (c .entry)) (now (a .entry)) (now (q .entry))) (now (gains .entry)) s
+        (now (e .entry)) (now (w .entry)) r (now (e .exit)) (now (w .exit)) ⌝ }
 {
     let k = s.centre;
     let both = forms::both_ways(q);
@@ -67,7 +71,7 @@ fn of_wide_step(
     let mut generators = raw::parts::generators(&lines, s, m);
     let g = s.generators;
     let counts = rounding::counts(w, rows, &centre, &generators, g);
-    let radii = remainder::radii(&lines, q, s, &counts);
+    let radii = remainder::radii(&lines, q, s, gains, &counts);
     rounding::round_first(w, rows * 6);
     rounding::round_first(&mut centre, 6);
     rounding::round_first(&mut generators, 144);

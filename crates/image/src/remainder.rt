@@ -1,4 +1,4 @@
-// What a set's independent part, its generators and radii, adds to each coordinate's radius: S of document 01.
+// What a set's independent part, its generators and radii, adds to each coordinate's radius: S of document 01, and what it gains.
 ghost use mathlib.Core.Path.{_≡_};
 ghost use Prim.Native.Nat.{ℕ, _+_, _*_, _≤_, _<_};
 ghost use lib.IntN.{natAbs};
@@ -8,14 +8,22 @@ ghost use Rattle.rows.specs.Rows.{Small};
 ghost use Rattle.forms.specs.Numbers.{tableLimit};
 ghost use Rattle.raw.specs.Accepted.{InSpan};
 ghost use Rattle.raw.specs.Limits.{rowSizes};
-ghost use Rattle.image.specs.Remainder.{Below, spread, cellOf, slopeSum, crossRow, crossSum, roundedUp};
+ghost use Rattle.image.specs.Remainder.{Below, spread, cellOf, slopeSum, crossRow, crossSum, roundedUp, newRadius};
+ghost use Rattle.image.specs.Gaining.{gainLimit};
 ghost use Rattle.image.specs.Radii.{NewRadii};
 use zonotope::PolyZonotope;
 
-// The new radii of a step on s, from the counts of inexact roundings.
-pub fn radii(lines: &[i64; 36], q: &[i32; 216], s: PolyZonotope, counts: &[u64; 6]) -> [u64; 6]
-    requires { ⌜ Small tableLimit (now lines) × Small 32768 (now q) × InSpan s × Below 4294967296 (now counts) ⌝ }
-    ensures { λ r. ⌜ NewRadii (now (lines .entry)) (now (q .entry)) s (now (counts .entry)) r ⌝ }
+// The new radii of a step on s, from what S gains and the counts of inexact roundings.
+pub fn radii(
+    lines: &[i64; 36],
+    q: &[i32; 216],
+    s: PolyZonotope,
+    gains: &[u64; 6],
+    counts: &[u64; 6],
+) -> [u64; 6]
+    requires { ⌜ Small tableLimit (now lines) × Small 32768 (now q) × InSpan s × Below gainLimit (now gains)
+        × Below 4294967296 (now counts) ⌝ }
+    ensures { λ r. ⌜ NewRadii (now (lines .entry)) (now (q .entry)) s (now (gains .entry)) (now (counts .entry)) r ⌝ }
 {
     let coefficients = s.coefficients;
     let vectors = s.vectors;
@@ -26,7 +34,7 @@ pub fn radii(lines: &[i64; 36], q: &[i32; 216], s: PolyZonotope, counts: &[u64; 
     let d = spreads(&coefficients, h, &none);
     let w = spreads(&coefficients, 0, &radii);
     let r = spreads(&vectors, g, &radii);
-    radii_from(lines, q, &d, &r, &w, counts)
+    radii_from(lines, q, &d, &r, &w, gains, counts)
 }
 
 // ---- D, r and w
@@ -126,12 +134,12 @@ fn cross_sum(q: &[i32; 216], i: usize, d: &[u64; 6], r: &[u64; 6]) -> u64
 }
 
 // ---- radii
-// S rounded up to whole units, and half of the count rounded up.
-fn rounded_up(s: u64, count: u64) -> u64
-    requires { ⌜ (s ≤ 9223372036854775808) × (count ≤ 4294967296) ⌝ }
-    ensures { λ r. ⌜ r ≡ roundedUp s count ⌝ }
+// S with what it gains, together rounded up to whole units, and half of the count rounded up.
+fn rounded_up(s: u64, gain: u64, count: u64) -> u64
+    requires { ⌜ (s + gain ≤ 9223372036854775808) × (count ≤ 4294967296) ⌝ }
+    ensures { λ r. ⌜ r ≡ roundedUp (s + gain) count ⌝ }
 {
-    (s + 16777215) / 16777216 + (count + 1) / 2
+    (s + gain + 16777215) / 16777216 + (count + 1) / 2
 }
 
 // The new radius of coordinate i.
@@ -141,18 +149,18 @@ fn radius_at(
     d: &[u64; 6],
     r: &[u64; 6],
     w: &[u64; 6],
+    gains: &[u64; 6],
     counts: &[u64; 6],
     i: usize,
 ) -> u64
     requires { ⌜ (i < 6) × Small tableLimit (now lines) × Small 32768 (now q) × Below 1048576 (now d) × Below 1048576 (now r)
-        × Below 1048576 (now w) × Below 4294967296 (now counts) ⌝ }
-    ensures { λ s. ⌜ s ≡ roundedUp
-        (slopeSum (now (lines .entry)) (now (w .entry)) i + crossSum (now (q .entry)) (now (d .entry)) (now (r .entry)) i)
-        (getD (now (counts .entry)) i 0) ⌝ }
+        × Below 1048576 (now w) × Below gainLimit (now gains) × Below 4294967296 (now counts) ⌝ }
+    ensures { λ s. ⌜ s ≡ newRadius (now (lines .entry)) (now (q .entry)) (now (d .entry)) (now (r .entry)) (now (w .entry))
+        (now (gains .entry)) (now (counts .entry)) i ⌝ }
 {
     let x = slope_sum(lines, i, w);
     let y = cross_sum(q, i, d, r);
-    rounded_up(x + y, counts[i])
+    rounded_up(x + y, gains[i], counts[i])
 }
 
 // The new radius of each coordinate.
@@ -162,17 +170,17 @@ fn radii_from(
     d: &[u64; 6],
     r: &[u64; 6],
     w: &[u64; 6],
+    gains: &[u64; 6],
     counts: &[u64; 6],
 ) -> [u64; 6]
     requires { ⌜ Small tableLimit (now lines) × Small 32768 (now q) × Below 1048576 (now d) × Below 1048576 (now r)
-        × Below 1048576 (now w) × Below 4294967296 (now counts) ⌝ }
-    ensures { λ s. ⌜ s ≡ tab 6 (λ (i : ℕ). roundedUp
-        (slopeSum (now (lines .entry)) (now (w .entry)) i + crossSum (now (q .entry)) (now (d .entry)) (now (r .entry)) i)
-        (getD (now (counts .entry)) i 0)) ⌝ }
+        × Below 1048576 (now w) × Below gainLimit (now gains) × Below 4294967296 (now counts) ⌝ }
+    ensures { λ s. ⌜ s ≡ tab 6 (newRadius (now (lines .entry)) (now (q .entry)) (now (d .entry)) (now (r .entry)) (now (w .entry))
+        (now (gains .entry)) (now (counts .entry))) ⌝ }
 {
     let mut out = [0u64; 6];
     for x in 0..6 {
-        let y = radius_at(lines, q, d, r, w, counts, x);
+        let y = radius_at(lines, q, d, r, w, gains, counts, x);
         out[x] = y;
     }
     out

@@ -1,7 +1,9 @@
 -- The polynomial step of a set.
---     Answer    the refusal of a step, and what the work slices hold afterwards
---     Order     the refusal by its parts: room, the set, the step's own numbers, the result
+--     Answer    the refusals, and what the work slices hold afterwards
+--     Order     a refusal by its parts: room, the set, the call's own causes, the result
 --     Left      what a work slice is left with
+--     Called    what a call answers and leaves, from what is asked before it is worked out
 pub mod Answer
 pub mod Order
 pub mod Left
+pub mod Called

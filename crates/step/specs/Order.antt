@@ -1,61 +1,94 @@
--- The refusal of a step by its parts: room in the work slices, the set, the step's own numbers, the result.
+-- The refusal of a call with work slices by its parts: room in the slices, the set, the call's own causes, the result.
 use mathlib.Core.Path.{_≡_, refl, sym, ap, _∙_}
-use mathlib.Core.List.{List, [], _∷_, _++_}
+use mathlib.Core.List.{List, [], _∷_}
 use mathlib.Core.Option.{Option, none, some}
 use mathlib.Core.Bool.{Bool, true, false, not, cond, true≢false}
 use Prim.Native.Nat.{ℕ, _≤_}
 use borrow.Author.Tests.{ltb-false, not-true}
 use lib.Dec.{ltb, eqb}
 use Rattle.whole.specs.Tab.{all}
+use Rattle.whole.specs.Tests.{or-left, or-right}
 use Rattle.model.specs.Limits.{standardWeights}
+use Rattle.model.specs.Set.{Zonotope}
 use Rattle.model.specs.Valid.{tooWide}
-use Rattle.model.specs.Step as Step
-use Rattle.model.specs.Step.{Step}
+use Rattle.model.specs.Step.{Step, step}
+use Rattle.model.specs.Ranged.{Widths, rangedStep}
 use Rattle.model.specs.Run.{Cause, _if_, firstOf}
-use Rattle.model.specs.Library.{Given, ofFirst, ofStep, examine, stepRefusal}
+use Rattle.model.specs.Library.{Given, ofFirst, ofStep, ofRangedStep, examine, workRefusal, stepRefusal, rangedRefusal}
 use Rattle.model.proofs.Tests.{and-true}
 use Rattle.zonotope.specs.declared.PolyZonotope.{PolyZonotope}
 use Rattle.zonotope.specs.declared.Examined.{Examined}
-use Rattle.zonotope.specs.declared.Examined.the-variants.{Refused}
+use Rattle.zonotope.specs.declared.Examined.the-variants.{Accepted, Refused}
 use Rattle.zonotope.specs.Record.{given}
 use Rattle.zonotope.specs.Shape.{Sized}
 use Rattle.zonotope.specs.Valid.{Unrefused, valid, passed}
-use Rattle.whole.specs.Tests.{or-left, or-right}
-use Rattle.zonotope.specs.Answer.{examined, orElse, first-append}
-use Rattle.image.specs.StepAccepted.{StepAccepted}
-use Rattle.answers.specs.Answer.{ofResult, isRefused, none-refuses}
+use Rattle.zonotope.specs.Answer.{examined, orElse}
+use Rattle.answers.specs.Answer.{ofResult, isRefused, accepting, none-refuses}
 use Rattle.answers.specs.Order.{in-order, neither}
 use Rattle.answers.specs.Accepted.{AcceptedRecord}
-use Rattle.stepping.specs.Arguments.{step-in}
 use Rattle.stepping.specs.Work.{workNumbers, workExponents, worked, result-worked}
 use Rattle.step.specs.Answer.{noRoom}
 
--- the set, then the step
-abbrev pub ofSetAndStep : Step → Given → Option ℕ
-ofSetAndStep p g = orElse (examine g) (firstOf (ofStep p (g .set .dimension)))
+-- room, then the set
+abbrev pub ofRoomAndSet : Bool → Given → Option ℕ
+ofRoomAndSet short g = cond short (some 13) (examine g)
 
--- before the result is looked at
-abbrev pub beforeStepping : Bool → Step → Given → Option ℕ
-beforeStepping short p g = cond short (some 13) (ofSetAndStep p g)
+-- before the result is looked at: then the call's own causes
+abbrev pub beforeStepping : Bool → Given → List Cause → Option ℕ
+beforeStepping short g own = orElse (ofRoomAndSet short g) (firstOf own)
 
--- the answers for room
+-- the same where the own causes are answered
+abbrev pub thenOwn : Option ℕ → Examined → Examined
+thenOwn none own = own
+thenOwn (some n) own = Refused n
+
+pub own-asked : (short : Bool) (g : Given) (causes : List Cause) {own r : Examined} → own ≡ examined (firstOf causes)
+    → r ≡ thenOwn (ofRoomAndSet short g) own → r ≡ examined (beforeStepping short g causes)
+own-asked short g causes {own} {r} e = go (ofRoomAndSet short g) where
+  go : (o : Option ℕ) → r ≡ thenOwn o own → r ≡ examined (orElse o (firstOf causes))
+  go none h = h ∙ e
+  go (some n) h = h
+
+-- the answers for room and the set
+module _ (short : Bool) (g : Given) (own : Examined) where
+  pub no-room : short ≡ true → Refused 13 ≡ thenOwn (ofRoomAndSet short g) own
+  no-room e = ap (λ (b : Bool). thenOwn (ofRoomAndSet b g) own) (sym e)
+
+  module _ (enough : short ≡ false) {r : Examined} (from : r ≡ examined (examine g)) where
+    pub set-refuses : isRefused r ≡ true → r ≡ thenOwn (ofRoomAndSet short g) own
+    set-refuses e = rw enough (from ∙ go (examine g) (sym (ap isRefused from) ∙ e)) where
+      go : (o : Option ℕ) → isRefused (examined o) ≡ true → examined o ≡ thenOwn o own
+      go none e = absurd (true≢false (sym e))
+      go (some n) e = refl
+
+    pub set-accepted : isRefused r ≡ false → own ≡ thenOwn (ofRoomAndSet short g) own
+    set-accepted e = rw (enough, none-refuses (examine g) from e)
+
+-- ---- the order of a call's causes
+work-order : (short : Bool) (g : Given) (own : List Cause) (result : Zonotope)
+    → workRefusal short g own result ≡ orElse (beforeStepping short g own) (ofResult result)
+unfolding firstOf
+work-order true g own result = refl
+work-order false g own result = in-order g own ((10 if tooWide result) ∷ [])
+
 module _ (short : Bool) (p : Step) (g : Given) where
-  pub no-room : short ≡ true → Refused 13 ≡ examined (beforeStepping short p g)
-  no-room e = ap (λ (b : Bool). examined (beforeStepping b p g)) (sym e)
+  pub step-order : stepRefusal short p g
+      ≡ orElse (beforeStepping short g (ofStep p (g .set .dimension))) (ofResult (step standardWeights p (g .set)))
+  unfolding stepRefusal
+  step-order = work-order short g _ _
 
-  pub room-left : short ≡ false → {r : Examined} → r ≡ examined (ofSetAndStep p g) → r ≡ examined (beforeStepping short p g)
-  room-left e h = h ∙ ap (λ (b : Bool). examined (beforeStepping b p g)) (sym e)
-
-pub step-order : (short : Bool) (p : Step) (g : Given)
-    → stepRefusal short p g ≡ orElse (beforeStepping short p g) (ofResult (Step.step standardWeights p (g .set)))
-unfolding stepRefusal firstOf
-step-order true p g = refl
-step-order false p g = in-order g (ofStep p (g .set .dimension)) ((10 if tooWide (Step.step standardWeights p (g .set))) ∷ [])
+  pub ranged-order : (d : Widths) → rangedRefusal short p d g
+      ≡ orElse (beforeStepping short g (ofRangedStep p d (g .set .dimension))) (ofResult (rangedStep standardWeights p d (g .set)))
+  unfolding rangedRefusal
+  ranged-order d = work-order short g _ _
 
 -- ---- whether the step is worked out
--- a refusal is not for the result where no cause has its number
-not-ten : (k : List Cause) → all (λ c. not (eqb (c .number) 10)) k ≡ true → isRefused (examined (firstOf k)) ≡ true
-    → worked (firstOf k) ≡ false
+-- no cause has the number of a result that is too wide
+abbrev pub NoTen : List Cause → Type 0
+NoTen k = all (λ c. not (eqb (c .number) 10)) k ≡ true
+
+-- a refusal by such causes is not for the result
+not-ten : (k : List Cause) → NoTen k → isRefused (examined (firstOf k)) ≡ true → worked (firstOf k) ≡ false
 unfolding firstOf all
 not-ten [] h e = absurd (true≢false (sym e))
 not-ten (c ∷ k) h e =
@@ -67,54 +100,60 @@ not-ten (c ∷ k) h e =
     go true n rest e = not-true (eqb (c .number) 10) n
     go false n rest e = rest e
 
--- a refusal that is asked first is the step's
+room-not-ten : (short : Bool) (g : Given) → isRefused (examined (ofRoomAndSet short g)) ≡ true → worked (ofRoomAndSet short g) ≡ false
+unfolding examine all
+room-not-ten true g e = refl
+room-not-ten false g e = not-ten (ofFirst g) refl e
+
+-- a refusal that is asked first is the call's
 first-refuses : (o p : Option ℕ) → isRefused (examined o) ≡ true → worked (orElse o p) ≡ worked o
 first-refuses none p e = absurd (true≢false (sym e))
 first-refuses (some n) p e = refl
 
-module _ (short : Bool) (p : Step) (g : Given) {r : Examined} (from : r ≡ examined (beforeStepping short p g)) where
-  pub not-worked : isRefused r ≡ true → worked (stepRefusal short p g) ≡ false
-  unfolding examine all
-  not-worked e =
-      let refuses = sym (ap isRefused from) ∙ e in
-      ap worked (step-order short p g) ∙ first-refuses (beforeStepping short p g) _ refuses ∙ go short refuses
-    where
-      go : (b : Bool) → isRefused (examined (beforeStepping b p g)) ≡ true → worked (beforeStepping b p g) ≡ false
-      go true e = refl
-      go false e =
-          let k = ofStep p (g .set .dimension) in
-          let joined = first-append (ofFirst g) k in
-          ap worked (sym joined) ∙ not-ten (ofFirst g ++ k) refl (ap (λ (o : Option ℕ). isRefused (examined o)) joined ∙ e)
+either : (a b : Option ℕ) → (isRefused (examined a) ≡ true → worked a ≡ false) → (isRefused (examined b) ≡ true → worked b ≡ false)
+    → isRefused (examined (orElse a b)) ≡ true → worked (orElse a b) ≡ false
+either none b h k e = k e
+either (some n) b h k e = h e
 
-  pub was-worked : isRefused r ≡ false → worked (stepRefusal short p g) ≡ true
+module _ (short : Bool) (g : Given) (own : List Cause) (result : Zonotope) {number : Option ℕ}
+    (order : number ≡ orElse (beforeStepping short g own) (ofResult result)) {r : Examined}
+    (from : r ≡ examined (beforeStepping short g own)) where
+  pub not-worked : NoTen own → isRefused r ≡ true → worked number ≡ false
+  not-worked h e =
+      let refuses = sym (ap isRefused from) ∙ e in
+      ap worked order
+      ∙ first-refuses (beforeStepping short g own) (ofResult result) refuses
+      ∙ either (ofRoomAndSet short g) (firstOf own) (room-not-ten short g) (not-ten own h) refuses
+
+  pub was-worked : isRefused r ≡ false → worked number ≡ true
   was-worked e =
-      let m = Step.step standardWeights p (g .set) in
-      ap worked (step-order short p g ∙ ap (λ (o : Option ℕ). orElse o (ofResult m)) (none-refuses (beforeStepping short p g) from e))
-      ∙ result-worked m
+      ap worked (order ∙ ap (λ (o : Option ℕ). orElse o (ofResult result)) (none-refuses (beforeStepping short g own) from e))
+      ∙ result-worked result
 
 -- ---- what is left where nothing refuses
--- room, an accepted set, an accepted step
-pub record Acceptable (s : PolyZonotope) (p : Step) (numbers exponents : ℕ) : Type 0 where
+-- room, an accepted set, no cause of the call's own
+pub record Acceptable (s : PolyZonotope) (causes : List Cause) (numbers exponents : ℕ) : Type 0 where
   pub set : AcceptedRecord s
-  pub step : StepAccepted p
+  pub own : firstOf causes ≡ none
   pub numbers-room : workNumbers ≤ numbers
   pub exponents-room : workExponents ≤ exponents
 
--- what a step with an accepted set passed
-pub set-and-step-in : (s : PolyZonotope) (p : Step) (short : Bool) → beforeStepping short p (given s) ≡ none
-    → (short ≡ false) × Unrefused (given s) × StepAccepted p
-set-and-step-in s p short e =
-    let room = passed short 13 e in
-    let parts = neither (examine (given s)) (firstOf (ofStep p (given s .set .dimension))) (room .1) in
-    (room .0, valid (given s) (parts .0), step-in p (given s .set .dimension) (parts .1))
+pub all-passed : (g : Given) (own : List Cause) (short : Bool) → beforeStepping short g own ≡ none
+    → (short ≡ false) × Unrefused g × (firstOf own ≡ none)
+all-passed g own short e =
+    let parts = neither (ofRoomAndSet short g) (firstOf own) e in
+    let room = passed short 13 (parts .0) in
+    (room .0, valid g (room .1), parts .1)
 
-pub acceptable : (s : PolyZonotope) (p : Step) (numbers exponents : ℕ) → Sized s
-    → beforeStepping (noRoom numbers exponents) p (given s) ≡ none → Acceptable s p numbers exponents
-acceptable s p numbers exponents z e =
-    let parts = set-and-step-in s p (noRoom numbers exponents) e in
+pub acceptable : (s : PolyZonotope) (own : List Cause) (numbers exponents : ℕ) {r : Examined}
+    → (r ≡ examined (beforeStepping (noRoom numbers exponents) (given s) own)) × (r ≡ Accepted → Sized s) → isRefused r ≡ false
+    → Acceptable s own numbers exponents
+acceptable s own numbers exponents {r} (from, sized) passes =
+    let nothing = none-refuses (beforeStepping (noRoom numbers exponents) (given s) own) from passes in
+    let parts = all-passed (given s) own (noRoom numbers exponents) nothing in
     record {
-      set = record { sized = z; passed = parts .1 };
-      step = parts .2;
+      set = record { sized = sized (accepting r passes); passed = parts .1 };
+      own = parts .2;
       numbers-room = ltb-false numbers workNumbers (or-left (ltb numbers workNumbers) (ltb exponents workExponents) (parts .0));
       exponents-room = ltb-false exponents workExponents (or-right (ltb numbers workNumbers) (ltb exponents workExponents) (parts .0));
     }

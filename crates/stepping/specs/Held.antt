@@ -1,29 +1,31 @@
 -- The rounded image of an accepted set in rows: a set in wide form, with numbers for which nothing overflows.
 use mathlib.Core.Path.{_≡_, refl, sym, ap, ap₂, _∙_}
 use mathlib.Core.List.{List, [], map}
-use Prim.Native.Nat.{ℕ, _+_, _*_, _-_, _<_, _≤_}
-use native.Mathlib.Decide.{decLt}
+use Prim.Native.Nat.{ℕ, _*_, _-_, _≤_}
 use native.Mathlib.Omega.{arith}
-use lib.ListN.{length, getD, length-map, List·getD-eq-default}
-use lib.IntN.{ℤ, pos, natAbs}
+use lib.ListN.{length, getD, length-map}
+use lib.IntN.{ℤ, pos}
 use Rattle.whole.specs.Round.{round}
 use Rattle.whole.specs.Tab.{tab, length-tab, tab-cong, tab-getD, map-tab, tab-row}
-use Rattle.whole.specs.Write.{getD-take}
 use Rattle.model.specs.Limits.{maxTerms, maxGenerators, standardWeights}
 use Rattle.model.specs.Set.{Zonotope, at}
 use Rattle.model.specs.Finish.{finish}
-use Rattle.model.specs.Step.{Step, raw, rounded, step, rawLinear}
-use Rattle.model.proofs.StepShape.{step-ready}
+use Rattle.model.specs.Step.{Step, raw, rounded, rawLinear}
+use Rattle.model.specs.Operations.{disturb}
+use Rattle.model.specs.Ranged.{gainingStep}
+use Rattle.model.proofs.StepShape.{raw-ready, rounded-ready}
+use Rattle.model.proofs.SumShape.{disturbed-ready}
 use Rattle.zonotope.specs.declared.PolyZonotope.{PolyZonotope}
 use Rattle.zonotope.specs.Record.{view}
 use Rattle.zonotope.specs.Counts.{InLimits, in-limits}
-use Rattle.rows.specs.Rows.{numberRow, rowsOf, Small}
+use Rattle.rows.specs.Rows.{numberRow, rowsOf}
 use Rattle.raw.specs.Accepted as Raw
 use Rattle.raw.specs.Unused.{generatorAt}
-use Rattle.raw.specs.Append.{Bounded, KeptFrom, term-same}
+use Rattle.raw.specs.Append.{KeptFrom}
 use Rattle.raw.specs.Parts.{wideVectors}
 use Rattle.image.specs.declared.Image.{Image}
 use Rattle.image.specs.StepAccepted.{StepAccepted, shaped}
+use Rattle.image.specs.Gaining.{gainedImage}
 use Rattle.image.specs.Imaged.{Imaged}
 use Rattle.image.specs.Remainder.{imageLimit}
 use Rattle.finish.specs.declared.Unfinished.{Unfinished}
@@ -63,12 +65,12 @@ vector-rows gs few =
     ∙ sym (map-tab wideVector (length gs) (λ t. getD gs t []))
     ∙ ap (map wideVector) (tab-getD (length gs) gs [] refl)
 
-module _ (p : Step) (s : PolyZonotope) (a : AcceptedRecord s) (ok : StepAccepted p) where
+module _ (p : Step) (gains : List ℕ) (s : PolyZonotope) (a : AcceptedRecord s) (ok : StepAccepted p) where
   abbrev image : Zonotope
-  image = rounded (raw p (view s))
+  image = rounded (gainedImage gains p (view s))
 
   generators-many : length (image .generators) ≡ s .generators
-  unfolding rounded raw view
+  unfolding rounded disturb raw view
   generators-many =
       length-map (raw p (view s) .generators) (map round)
       ∙ length-map (view s .generators) (λ g. tab (p .rows) (rawLinear p (view s) g))
@@ -78,15 +80,18 @@ module _ (p : Step) (s : PolyZonotope) (a : AcceptedRecord s) (ok : StepAccepted
   few = in-limits s (a .passed .counts)
 
   image-narrow : Narrow image
-  unfolding rounded raw view
+  unfolding rounded disturb raw view
   image-narrow = record {
-    shaped = step-ready p (ready s a) .shaped;
+    shaped =
+        rounded-ready (disturbed-ready (tab (p .rows) (λ i. getD gains i 0)) (length-tab (p .rows) _) (raw-ready p (ready s a)))
+        .shaped;
     coordinates = shaped p ok .rows;
     factors = rw (length-tab (s .factors) (λ i. getD (s .identifiers) i 0)) (few .factors);
   }
 
   -- ---- in the rows that `of_step` leaves
-  module _ {e₀ e : List ℕ} {w₀ w : List ℤ} {r : Image} (d : Imaged p s e₀ w₀ r e w) (le : 10320 ≤ length e) (lw : 5160 ≤ length w) where
+  module _ {e₀ e : List ℕ} {w₀ w : List ℤ} {r : Image} (d : Imaged p gains s e₀ w₀ r e w) (le : 10320 ≤ length e)
+      (lw : 5160 ≤ length w) where
     abbrev rows : ℕ
     rows = r .rows
 
@@ -111,8 +116,9 @@ module _ (p : Step) (s : PolyZonotope) (a : AcceptedRecord s) (ok : StepAccepted
       factors = image-narrow .factors;
     }
 
-    image-wide : held (unfinishedImage p s r) (part (rows * 12) e) (part (rows * 6) w) rows (r .generators) (s .generators) ≡ wide shortImage
-    unfolding wide rounded raw view
+    image-wide : held (unfinishedImage p s r) (part (rows * 12) e) (part (rows * 6) w) rows (r .generators) (s .generators)
+        ≡ wide shortImage
+    unfolding wide rounded disturb raw view
     image-wide = λ k. record {
       dimension = p .rows;
       identifiers = tab (s .factors) (λ i. getD (s .identifiers) i 0);
@@ -148,11 +154,11 @@ module _ (p : Step) (s : PolyZonotope) (a : AcceptedRecord s) (ok : StepAccepted
           widened = record { source = shortImage; is = image-wide; narrow = short-narrow };
         }
 
-    -- finished, they are the step
+    -- finished, they are the step whose remainders gain these numbers
     pub image-step : {f : Finished} → f ≡ finishedAs (finish standardWeights maxTerms maxGenerators
         (held (unfinishedImage p s r) (part (rows * 12) e) (part (rows * 6) w) rows (r .generators) (s .generators)))
-        → f ≡ finishedAs (step standardWeights p (view s))
-    unfolding step
+        → f ≡ finishedAs (gainingStep standardWeights (λ i. getD gains i 0) p (view s))
+    unfolding gainingStep
     image-step q =
         finished-held standardWeights maxTerms maxGenerators shortImage short-narrow image-wide q
         ∙ ap finishedAs
@@ -160,7 +166,7 @@ module _ (p : Step) (s : PolyZonotope) (a : AcceptedRecord s) (ok : StepAccepted
         (All-imp (λ t h. h .coefficients-long) (image-narrow .shaped .rows)) (short .zero))
 
 -- ---- places of the slices that no image uses
-module _ {p : Step} {s : PolyZonotope} {e₀ e : List ℕ} {w₀ w : List ℤ} {r : Image} (d : Imaged p s e₀ w₀ r e w) where
+module _ {p : Step} {gains : List ℕ} {s : PolyZonotope} {e₀ e : List ℕ} {w₀ w : List ℤ} {r : Image} (d : Imaged p gains s e₀ w₀ r e w) where
   pub numbers-kept : KeptFrom (pos 0) workNumbers w₀ w
   numbers-kept = let inside = d .inside in record { place = λ x h. d .later-numbers .place x (omega arith) }
 

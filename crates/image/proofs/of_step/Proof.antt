@@ -38,8 +38,9 @@ of-wide-step-requires c κs =
       rw (a .wide-linear .ensures) (linear-to (P z) (shape z)),
       rw (q .wide-quadratic .ensures) (quadratic-to (P z) (shape z)),
       z .pre .1,
-      z .pre .2,
+      z .pre .2 .below,
       z .pre .3,
+      z .pre .4,
     )
 
 same-length : tie.Need-same-length
@@ -55,7 +56,7 @@ returns c =
     let a = q .before in
     let k = a .before in
     let z = k .before .before in
-    imaged-narrow (P z) (shape z) (z .args .s) (z .pre .1) _ _ _ _ _
+    imaged-narrow (P z) (shape z) (z .args .gains .now) (z .pre .2) (z .args .s) (z .pre .1) _ _ _ _ _
     (rw (k .wide-constant .ensures, a .wide-linear .ensures, q .wide-quadratic .ensures) at (d .of-wide-step .ensures))
 
 pub of-step-spec : {M : Type 1} → statement M

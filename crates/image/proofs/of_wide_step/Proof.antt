@@ -81,7 +81,7 @@ all-rows-requires : tie.Need-all-rows-requires
 all-rows-requires c κs =
     let l = c .before .before .before .before in
     let z = start l in
-    (z .pre .7, z .pre .8, z .pre .0, lines-ok l, both-ok (tables l), lines-rows l, both-rows (tables l), ok z)
+    (z .pre .8, z .pre .9, z .pre .0, lines-ok l, both-ok (tables l), lines-rows l, both-rows (tables l), ok z)
 
 centre-requires : tie.Need-centre-requires
 centre-requires c κs =
@@ -96,7 +96,7 @@ counts-requires : tie.Need-counts-requires
 counts-requires c κs =
     let t = c .before .before .before .before .before .before .before .before .before .before in
     let z = start (made t) in
-    (t .all-rows .ensures .inside, counts-in (S z) (ok z) .3, omega (arith, t .all-rows .kept, t .all-rows .ensures .inside, z .pre .7))
+    (t .all-rows .ensures .inside, counts-in (S z) (ok z) .3, omega (arith, t .all-rows .kept, t .all-rows .ensures .inside, z .pre .8))
 
 radii-requires : tie.Need-radii-requires
 radii-requires c κs =
@@ -107,6 +107,7 @@ radii-requires c κs =
       lines-ok l,
       z .pre .3,
       ok z,
+      z .pre .7,
       counts-below _ _ _ (t .all-rows .result) (S z .generators) (n .counts .result) (n .counts .ensures)
           (t .all-rows .ensures .inside) (counts-in (S z) (ok z) .3),
     )
@@ -118,7 +119,7 @@ round-first-requires : tie.Need-round-first-requires
 round-first-requires c κs =
     let t = c .before .before .before .before .before .before .before .before .before .before .before .before .before .before .before in
     let z = start (made t) in
-    (omega (arith, t .all-rows .kept, t .all-rows .ensures .inside, z .pre .7), bounded-mono (t .all-rows .ensures .numbers) (omega arith))
+    (omega (arith, t .all-rows .kept, t .all-rows .ensures .inside, z .pre .8), bounded-mono (t .all-rows .ensures .numbers) (omega arith))
 
 slice-aggregate-round-first : tie.Need-slice-aggregate-round-first
 slice-aggregate-round-first c = search needs
@@ -137,7 +138,11 @@ round-first-requires-3 c κs =
     (search needs, small-bounded 144 (g .generators .ensures .small))
 
 same-length : tie.Need-same-length
-same-length c = search needs
+same-length c =
+    let x = c .before .before .before .before .before .before .before in
+    let n = x .before .before .before .before .before in
+    let t = n .before .before .before .before .before .before .before .before .before .before .before in
+    omega (arith, x .round-first .kept, t .all-rows .kept)
 
 same-length-2 : tie.Need-same-length-2
 same-length-2 c = search needs
@@ -157,10 +162,10 @@ returns c =
     imaged (z .args .c .now) (z .args .a .now) (z .args .q .now) (l .lines .result) (tables l .both-ways .result) (S z) (ok z)
     (tables l .both-ways .ensures) (lines-are l) (z .args .e .now) _ (z .args .w .now) _ _
     (t .all-rows .result) (t .all-rows .ensures)
-    (omega (arith, t .all-rows .kept, t .all-rows .ensures .inside, z .pre .7)) (x .round-first .ensures)
+    (omega (arith, t .all-rows .kept, t .all-rows .ensures .inside, z .pre .8)) (x .round-first .ensures)
     (m .centre .result) _ (m .centre .ensures) (k .round-first2 .ensures)
     (g .generators .result) _ (g .generators .ensures) (v .round-first3 .ensures)
-    (n .counts .result) (d .radii .result) (n .counts .ensures) (d .radii .ensures)
+    (z .args .gains .now) (n .counts .result) (d .radii .result) (n .counts .ensures) (d .radii .ensures)
 
 pub of-wide-step-spec : {M : Type 1} → statement M
 of-wide-step-spec =

@@ -12,7 +12,7 @@ abbrev asked : (s : tie.Start) → Step
 asked s = let a = s .args in stepOf (a .m) (a .n) (a .c .now) (a .a .now) (a .q .now)
 
 of-step-requires : tie.Need-of-step-requires
-of-step-requires c κs = let s = c .before .before .before in (s .pre .1, for-image (s .pre .0), s .pre .2, s .pre .3)
+of-step-requires c κs = let s = c .before .before .before in (s .pre .1, for-image (s .pre .0), s .pre .2, s .pre .3, s .pre .4)
 
 mul-finish-rows : tie.Need-mul-finish-rows
 mul-finish-rows c = search needs
@@ -46,8 +46,8 @@ finish-rows-requires c κs =
     let o = c .before .before .before .before .before .before .before .before .before .before .before .before in
     let s = o .before .before .before .before in
     let rows =
-    image-finishable (asked s) (s .args .s) (s .pre .0) (s .pre .1) (o .of-step .ensures)
-    (omega (arith, o .of-step .kept, s .pre .3)) (omega (arith, o .of-step .kept, s .pre .2)) in
+    image-finishable (asked s) (s .args .gains .now) (s .args .s) (s .pre .0) (s .pre .1) (o .of-step .ensures)
+    (omega (arith, o .of-step .kept, s .pre .4)) (omega (arith, o .of-step .kept, s .pre .3)) in
     (rows, omega arith, omega arith)
 
 same-length : tie.Need-same-length
@@ -60,8 +60,8 @@ returns : tie.Need-returns
 returns c =
     let o = c .before .before .before .before .before .before .before .before .before .before .before .before .before .before in
     let s = o .before .before .before .before in (
-      image-step (asked s) (s .args .s) (s .pre .0) (s .pre .1) (o .of-step .ensures)
-          (omega (arith, o .of-step .kept, s .pre .3)) (omega (arith, o .of-step .kept, s .pre .2)) (c .before .finish-rows .ensures),
+      image-step (asked s) (s .args .gains .now) (s .args .s) (s .pre .0) (s .pre .1) (o .of-step .ensures)
+          (omega (arith, o .of-step .kept, s .pre .4)) (omega (arith, o .of-step .kept, s .pre .3)) (c .before .finish-rows .ensures),
       (numbers-kept (o .of-step .ensures), exponents-kept (o .of-step .ensures)),
     )
 

@@ -44,7 +44,9 @@ spreads-requires-2 c κs =
     (search needs, search needs, no-rows-room (S z) (ok z))
 
 slice-aggregate-spreads-3 : tie.Need-slice-aggregate-spreads-3
-slice-aggregate-spreads-3 c = let z = c .before .before .before .before .before .before .before .before .before .before in sym (sized z .vectors)
+slice-aggregate-spreads-3 c =
+    let z = c .before .before .before .before .before .before .before .before .before .before in
+    sym (sized z .vectors)
 
 spreads-requires-3 : tie.Need-spreads-requires-3
 spreads-requires-3 c κs =
@@ -66,6 +68,7 @@ radii-from-requires c κs =
           (independent-below (S z) (ok z)),
       rw (w .spreads2 .ensures) (radii-below (S z) (ok z)),
       z .pre .3,
+      z .pre .4,
     )
 
 returns : tie.Need-returns
@@ -76,8 +79,8 @@ returns c =
     let d = w .before .before .before in
     let z = d .before .before .before .before .before .before in
     new-radii (S z) (ok z) (replicate 6 0) tt (Q z) (z .args .lines .now) (d .spreads .result) (r .spreads3 .result)
-    (w .spreads2 .result) (z .args .counts .now) (d .spreads .ensures) (r .spreads3 .ensures) (w .spreads2 .ensures) (z .pre .1)
-    (z .pre .0) (z .pre .3) _ (c .radii-from .ensures)
+    (w .spreads2 .result) (z .args .gains .now) (z .args .counts .now) (d .spreads .ensures) (r .spreads3 .ensures)
+    (w .spreads2 .ensures) (z .pre .1) (z .pre .0) (z .pre .3) (z .pre .4) _ (c .radii-from .ensures)
 
 pub radii-spec : {M : Type 1} → statement M
 radii-spec =

@@ -1,24 +1,22 @@
 -- `image::remainder::radii_from` meets its contract: each place is filled in turn.
 use borrow.Author.Needs.{needs}
 use native.Mathlib.Omega.{arith}
-use Prim.Native.Nat.{ℕ, _+_, _-_}
-use lib.ListN.{getD}
+use Prim.Native.Nat.{ℕ, _-_}
 use Rattle.forms.specs.Filling.{Filling, filling-begins, filling-again, filling-ends}
-use Rattle.image.specs.Remainder.{slopeSum, crossSum, roundedUp}
+use Rattle.image.specs.Remainder.{newRadius}
 use Rattle.image.proofs.remainder.radii_from.Statement.{statement}
 use Rattle.image.proofs.remainder.radii_from.Tie as tie
 
 abbrev Inv-loop : tie.InvT-loop
-Inv-loop lines q d r w counts out₀ x₀ out x = Filling 6 (λ (i : ℕ). roundedUp (slopeSum lines w i + crossSum q d r i) (getD counts i 0))
-    out₀ x out
+Inv-loop lines q d r w gains counts out₀ x₀ out x = Filling 6 (newRadius lines q d r w gains counts) out₀ x out
 
 abbrev μ-loop : tie.MeasureT-loop
-μ-loop lines q d r w counts out₀ x₀ out x = 6 - x
+μ-loop lines q d r w gains counts out₀ x₀ out x = 6 - x
 
 abbrev F : tie.Start Inv-loop μ-loop → ℕ → ℕ
-F s = λ (i : ℕ). roundedUp
-    (slopeSum (s .args .lines .now) (s .args .w .now) i + crossSum (s .args .q .now) (s .args .d .now) (s .args .r .now) i)
-    (getD (s .args .counts .now) i 0)
+F s =
+    let a = s .args in
+    newRadius (a .lines .now) (a .q .now) (a .d .now) (a .r .now) (a .w .now) (a .gains .now) (a .counts .now)
 
 loop-holds : tie.Need-loop-holds Inv-loop μ-loop
 loop-holds c = filling-begins 6 (F c) _ (search needs)

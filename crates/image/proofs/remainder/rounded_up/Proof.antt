@@ -1,4 +1,4 @@
--- `image::remainder::rounded_up` meets its contract: both sums fit 64 bits.
+-- `image::remainder::rounded_up` meets its contract: every sum fits 64 bits.
 use borrow.Author.Needs.{needs}
 use Rattle.image.proofs.remainder.rounded_up.Statement.{statement}
 use Rattle.image.proofs.remainder.rounded_up.Tie as tie
@@ -12,8 +12,11 @@ add-result-2 c = search needs
 add-result-3 : tie.Need-add-result-3
 add-result-3 c = search needs
 
+add-result-4 : tie.Need-add-result-4
+add-result-4 c = search needs
+
 returns : tie.Need-returns
 returns c = search needs
 
 pub rounded-up-spec : {M : Type 1} → statement M
-rounded-up-spec = tie.close (tie.spec add-result add-result-2 add-result-3 returns)
+rounded-up-spec = tie.close (tie.spec add-result add-result-2 add-result-3 add-result-4 returns)
