@@ -5,7 +5,8 @@ use mathlib.Core.Option.{Option, none, some}
 use mathlib.Core.Bool.{Bool, true, false, cond, _&&_}
 use Prim.Native.Nat.{ℕ, _+_}
 use lib.Dec.{eqb}
-use Rattle.model.specs.Field.{Kind, start, step, disturbance, independent, tied, reduction, check, hull, unknown, refused, meaning}
+use Rattle.model.specs.Field.{Kind, start, step, disturbance, independent, tied, reduction, check, hull, rangedStep, unknown}
+use Rattle.model.specs.Field.{refused, meaning}
 use Rattle.model.specs.Run as Model
 use Rattle.model.specs.Run.{tag, kindOf, current, refusal}
 use Rattle.zonotope.specs.declared.Examined.{Examined}
@@ -22,6 +23,7 @@ use Rattle.advance.specs.declared.Advanced.{Advanced}
 -- whether a kind is worked out in the work slices
 abbrev pub isStep : Kind → Bool
 isStep step = true
+isStep rangedStep = true
 isStep start = false
 isStep disturbance = false
 isStep independent = false

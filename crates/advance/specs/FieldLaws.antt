@@ -2,7 +2,7 @@
 use mathlib.Core.Path.{_≡_, refl, sym, _∙_, ap, subst}
 use mathlib.Core.List.{List}
 use mathlib.Core.Option.{Option, none, some}
-use mathlib.Core.Bool.{Bool, true, false, cond, _&&_, _||_, true≢false}
+use mathlib.Core.Bool.{Bool, true, false, cond, _&&_}
 use Prim.Native.Nat.{ℕ, zero, suc, _+_, _-_, _<_, _≤_}
 use native.Mathlib.Omega.{arith}
 use borrow.Author.Tests.{ltb-false, eqb-true, not-false}
@@ -12,8 +12,7 @@ use Rattle.whole.specs.Tests.{or-left, or-right}
 use Rattle.model.specs.Limits.{lastField, lastTag}
 use Rattle.model.specs.Bytes.{byte}
 use Rattle.model.specs.Field.{refused, skipped}
-use Rattle.model.specs.Run as Model
-use Rattle.model.specs.Run.{tag, body, kindOf, current, refusal, meant, after, outcome, causes, ofBody, firstOf, firstField, fieldLength}
+use Rattle.model.specs.Run.{tag, body, kindOf, refusal, meant, after, outcome, causes, ofBody, firstOf, firstField, fieldLength}
 use Rattle.model.specs.Run.{bodyLength, misplaced, cut}
 use Rattle.zonotope.specs.Answer.{orElse, first-append}
 use Rattle.stepping.specs.Work.{worked}
@@ -38,17 +37,21 @@ tag-advanced n place st b bytes e p = p ∙ ap (λ t. kindAdvanced place st (kin
 pub later : {st : State} {t : ℕ} → Ready st t → (t ≡ 1 → ⊥) → Running st × (0 < st .count) × (st .count ≤ 4096)
 later r h = (r .running, r .there h, r .few)
 
--- the last tag is left where no other is
+-- a hull's tag is left where no other is
 above : {t : ℕ} (n : ℕ) → n ≤ t → (t ≡ n → ⊥) → n + 1 ≤ t
 above n h e = omega arith
+
+below : {t : ℕ} (n : ℕ) → t ≤ n → (t ≡ n → ⊥) → t ≤ n - 1
+below n h e = omega arith
 
 between : {t : ℕ} (n : ℕ) → n ≤ t → t ≤ n → t ≡ n
 between n h k = omega arith
 
 pub last-is : (t : ℕ) → (1 ≤ t) × (t ≤ lastTag) → (t ≡ 1 → ⊥) → (t ≡ 2 → ⊥) → (t ≡ 3 → ⊥) → (t ≡ 4 → ⊥) → (t ≡ 5 → ⊥) → (t ≡ 6 → ⊥)
-    → (t ≡ 7 → ⊥) → t ≡ lastTag
-last-is t k one two three four five six seven =
-    between 8 (above 7 (above 6 (above 5 (above 4 (above 3 (above 2 (above 1 (k .0) one) two) three) four) five) six) seven) (k .1)
+    → (t ≡ 7 → ⊥) → (t ≡ 9 → ⊥) → t ≡ 8
+last-is t k one two three four five six seven nine =
+    between 8 (above 7 (above 6 (above 5 (above 4 (above 3 (above 2 (above 1 (k .0) one) two) three) four) five) six) seven)
+    (below 9 (k .1) nine)
 
 -- a tag that may stand here
 tag-known : (count t : ℕ) → misplacedTag count t ≡ false → ((t ≡ 1 → ⊥) → 0 < count) × ((1 ≤ t) × (t ≤ lastTag))

@@ -14,9 +14,7 @@ use Rattle.model.specs.Limits.{firstFresh, lastFresh}
 use Rattle.model.specs.Set.{Zonotope}
 use Rattle.model.specs.Operations.{box}
 use Rattle.model.specs.Field as Model
-use Rattle.model.specs.Field.{Kind, start, step, disturbance, tied, reduction, inside, refused, skipped}
-use Rattle.model.specs.Field.{meaning}
-use Rattle.model.specs.Run as Run
+use Rattle.model.specs.Field.{Kind, start, step, disturbance, tied, reduction, rangedStep, inside, refused, skipped, meaning}
 use Rattle.model.specs.Run.{tag, body, kindOf, current, refusal, meant, after, outcome, firstOf, causes, ofBody, misplaced, cut}
 use Rattle.model.proofs.Tests.{any-false, no-cause}
 use Rattle.model.proofs.Shape as Shape
@@ -35,6 +33,7 @@ use Rattle.answers.specs.Answer.{answered}
 use Rattle.answers.specs.Chain.{accepted-valid}
 use Rattle.stepping.specs.Work.{worked}
 use Rattle.fields.specs.Refusal.{bodyRefusal, resultOf}
+use Rattle.fields.specs.Steps.{stepKind}
 use Rattle.states.specs.declared.State.{State}
 use Rattle.states.specs.declared.Outcome.{Outcome}
 use Rattle.states.specs.declared.Outcome.the-variants as said
@@ -94,9 +93,19 @@ concluded st place bytes next r worked = concludedBy (r .outcome) st place bytes
 pub data Plain : Kind → Type 0 where
   plain-start : Plain start
   plain-step : Plain step
+  plain-ranged : Plain rangedStep
   plain-disturbance : Plain disturbance
   plain-tied : Plain tied
   plain-reduction : Plain reduction
+
+-- a step and a ranged step are
+pub plain-stepped : (ranged : Bool) → Plain (stepKind ranged)
+plain-stepped false = plain-step
+plain-stepped true = plain-ranged
+
+pub stepped-works : (ranged : Bool) → isStep (stepKind ranged) ≡ true
+stepped-works false = refl
+stepped-works true = refl
 
 -- a field that answers with the box of what it leaves
 abbrev pub Boxed : Kind → List ℕ → ℕ → Zonotope → Type 0
@@ -106,6 +115,7 @@ plain-boxed : {k : Kind} → Plain k → (b : List ℕ) (next : ℕ) (s : Zonoto
 unfolding meaning
 plain-boxed plain-start b next s = refl
 plain-boxed plain-step b next s = refl
+plain-boxed plain-ranged b next s = refl
 plain-boxed plain-disturbance b next s = refl
 plain-boxed plain-tied b next s = refl
 plain-boxed plain-reduction b next s = refl
@@ -115,6 +125,7 @@ next-open : {k : Kind} → Plain k → (b : List ℕ) (m n : ℕ) (s : Zonotope)
 unfolding meaning
 next-open plain-start b m n s = (refl, refl, refl)
 next-open plain-step b m n s = (refl, refl, refl)
+next-open plain-ranged b m n s = (refl, refl, refl)
 next-open plain-disturbance b m n s = (refl, refl, refl)
 next-open plain-tied b m n s = (refl, refl, refl)
 next-open plain-reduction b m n s = (refl, refl, refl)

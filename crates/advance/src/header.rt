@@ -9,7 +9,7 @@ use zonotope::Examined;
 // Document 01's number of the last field that may follow the start set, and the last tag.
 const LAST_FIELD: usize = 4096;
 
-const LAST_TAG: u8 = 8;
+const LAST_TAG: u8 = 9;
 
 // How many bytes the first field has: as many as its header says, or all that are left.
 pub fn field_bytes(rest: &[u8]) -> usize

@@ -3,9 +3,10 @@ ghost use mathlib.Core.Path.{_≡_};
 ghost use Prim.Native.Nat.{_≤_, _<_};
 ghost use lib.IntN.{pos};
 ghost use lib.ListN.{length};
-ghost use Rattle.model.specs.Field.{start, step, disturbance, independent, tied, reduction, check, hull};
+ghost use Rattle.model.specs.Field.{start, disturbance, independent, tied, reduction, check, hull};
 ghost use Rattle.model.specs.Run.{kindOf};
 ghost use Rattle.stepping.specs.Work.{workNumbers, workExponents};
+ghost use Rattle.fields.specs.Steps.{stepKind};
 ghost use Rattle.advance.specs.Running.{Running, Ready};
 ghost use Rattle.advance.specs.Advanced.{kindAdvanced, Used, workedBy};
 use crate::Advanced;
@@ -29,14 +30,17 @@ pub fn by_tag(
     ensures exponents { λ r. ⌜ Used (r .worked) 0 workExponents (now (e .entry)) (now (e .exit)) ⌝ }
 {
     if t == 2 {
-        return stepped(st, place, bytes, body, w, e);
+        return stepped(st, place, bytes, false, body, w, e);
+    }
+    if t == 9 {
+        return stepped(st, place, bytes, true, body, w, e);
     }
     by_other_tag(st, place, bytes, t, body)
 }
 
-// By a tag that isn't a step's.
+// By a tag that is no step's.
 fn by_other_tag(st: State, place: usize, bytes: usize, t: u8, body: &[u8]) -> Advanced
-    requires { ⌜ Ready st t × (t ≡ 2 → ⊥) ⌝ }
+    requires { ⌜ Ready st t × (t ≡ 2 → ⊥) × (t ≡ 9 → ⊥) ⌝ }
     ensures { λ r. ⌜ r ≡ kindAdvanced place st (kindOf t) (now (body .entry)) bytes ⌝ }
 {
     if t == 1 {
@@ -69,22 +73,23 @@ fn started(st: State, place: usize, bytes: usize, body: &[u8]) -> Advanced
     conclusion::changed(st, place, bytes, st.next, r, false)
 }
 
-// A step.
+// A step or a ranged step.
 fn stepped(
     st: State,
     place: usize,
     bytes: usize,
+    ranged: bool,
     body: &[u8],
     w: &mut [i64],
     e: &mut [u8],
 ) -> Advanced
     requires { ⌜ Running st × (0 < st .count) × (st .count ≤ 4096) × (workNumbers ≤ length (now w)) × (workExponents ≤ length (now e)) ⌝ }
-    ensures { λ r. ⌜ r ≡ kindAdvanced place st step (now (body .entry)) bytes ⌝ }
+    ensures { λ r. ⌜ r ≡ kindAdvanced place st (stepKind ranged) (now (body .entry)) bytes ⌝ }
     ensures numbers { λ r. ⌜ Used (r .worked) (pos 0) workNumbers (now (w .entry)) (now (w .exit)) ⌝ }
     ensures exponents { λ r. ⌜ Used (r .worked) 0 workExponents (now (e .entry)) (now (e .exit)) ⌝ }
 {
     let s = st.set;
-    let r = fields::steps::step(s, body, w, e);
+    let r = fields::steps::step(s, ranged, body, w, e);
     let o = r.outcome;
     conclusion::changed(st, place, bytes, st.next, r, was_worked(o))
 }

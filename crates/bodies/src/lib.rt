@@ -8,11 +8,12 @@ ghost use lib.ListN.{length};
 ghost use Rattle.whole.specs.Tab.{any};
 ghost use Rattle.model.specs.Limits.{fileIdentifiers, maxDisturbance};
 ghost use Rattle.model.specs.Body.{setLength, radiusWords, givenSet, stepLength, givenStep};
+ghost use Rattle.model.specs.Body.{rangedLength, givenWidths};
 ghost use Rattle.model.specs.Body.{dimension, disturbanceWords, givenRadii};
-ghost use Rattle.model.specs.Field.{badDimension, negative, beyond};
+ghost use Rattle.model.specs.Field.{badDimension, negative, negativeWidth, beyond};
 ghost use Rattle.zonotope.specs.Record.{pack};
 ghost use Rattle.bodies.specs.Set.{countsOf, setCountsOut, SetBody, InLimits, radiiFrom};
-ghost use Rattle.bodies.specs.Fields.{stepCountsOut, StepBody, radiiLength, limitsOut};
+ghost use Rattle.bodies.specs.Fields.{stepCountsOut, StepBody, WidthsBody, radiiLength, limitsOut};
 ghost use Rattle.bodies.specs.Fields.{regionCountsOut, regionLength, RegionBody, givenNormals, givenBounds};
 
 mod record;
@@ -140,6 +141,41 @@ pub fn step(b: &[u8], c: &mut [i32], a: &mut [i32], q: &mut [i32])
     words::read_words(b, 2, c);
     words::read_words(b, linear_from, a);
     words::read_words(b, quadratic_from, q);
+}
+
+// ---- a ranged step: a step, then the half-widths of A's entries and of Q's
+// The length of a ranged step's body.
+pub fn ranged_length(b: &[u8]) -> usize
+    requires { ⌜ 2 ≤ length (now b) ⌝ }
+    ensures { λ r. ⌜ r ≡ rangedLength (now (b .entry)) ⌝ }
+{
+    let m = words::byte_at(b, 0);
+    let n = words::byte_at(b, 1);
+    step_length(b) + 4 * (m * n) + 4 * (m * n * n)
+}
+
+// The sizes of its half-widths.
+pub fn widths(b: &[u8], da: &mut [u32], dq: &mut [u32])
+    requires { ⌜ WidthsBody (now b) (length (now da)) (length (now dq)) ⌝ }
+    ensures { λ _. ⌜ (now (da .exit) ≡ givenWidths (now (b .entry)) .linear)
+        × (now (dq .exit) ≡ givenWidths (now (b .entry)) .quadratic) ⌝ }
+{
+    let linear_from = step_length(b);
+    let quadratic_from = linear_from + 4 * da.len();
+    words::read_sizes(b, linear_from, da);
+    words::read_sizes(b, quadratic_from, dq);
+}
+
+// 6: whether a half-width is negative.
+pub fn negative_width(b: &[u8]) -> bool
+    requires { ⌜ length (now b) ≡ rangedLength (now b) ⌝ }
+    ensures { λ r. ⌜ r ≡ negativeWidth (now (b .entry)) ⌝ }
+{
+    let m = words::byte_at(b, 0);
+    let n = words::byte_at(b, 1);
+    let linear_from = step_length(b);
+    let quadratic_from = linear_from + 4 * (m * n);
+    words::any_negative(b, linear_from, m * n) | words::any_negative(b, quadratic_from, m * n * n)
 }
 
 // ---- a disturbance

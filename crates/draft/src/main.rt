@@ -1,6 +1,7 @@
 // One example of each call, and document 01's run-only cases of single operations. Its `stdout` was worked out by other means:
 // docs/EXAMPLES.md.
 mod hulls;
+mod ranges;
 mod sets;
 mod show;
 mod steps;
@@ -55,5 +56,6 @@ fn main() {
     examples_of_checks();
     examples_of_sums();
     steps::examples();
+    ranges::examples();
     hulls::examples();
 }

@@ -7,7 +7,7 @@ use native.Mathlib.Omega.{arith}
 use borrow.Author.Tests.{lt-ltb, le-ltb, eq-eqb, ne-eqb, ltb-false}
 use lib.Dec.{ltb, eqb}
 use lib.ListN.{length}
-use lib.IntN.{ℤ}
+use lib.IntN.{ℤ, pos}
 use Rattle.whole.specs.Tab.{length-tab}
 use Rattle.whole.specs.Tests.{or-right}
 use Rattle.model.specs.Set.{Zonotope}
@@ -24,7 +24,7 @@ use Rattle.verdicts.specs.declared.Verdict.the-variants.{Refused}
 use Rattle.verdicts.specs.Region.{halfspaces}
 use Rattle.verdicts.specs.Judged.{judged, few}
 use Rattle.fields.specs.Refusal.{bodyRefusal}
-use Rattle.fields.specs.Steps.{zeros, zeros-length}
+use Rattle.fields.specs.Entries.{zeros, zeros-length}
 
 -- a body with counts in limits and as long as they say
 abbrev pub WholeRegion : List ℕ → Type 0
@@ -84,10 +84,10 @@ module _ (b : List ℕ) (h : WholeRegion b) {n count : ℕ} (e₁ : n ≡ dimens
       rw (e₁, e₂) (few (dimension b) k (h .counts), ltb-false 8 k most)
 
   -- parts that have room for them
-  pub region-room : RegionBody b (length (zeros (count * n) 48)) (length (zeros count 8))
+  pub region-room : RegionBody b (length (zeros (pos 0) (count * n) 48)) (length (zeros (pos 0) count 8))
   region-room = let small = region-few in record {
     counts = h .counts;
     long = h .long;
-    normals-long = zeros-length (count * n) 48 (small .0) ∙ rw (e₁, e₂);
-    bounds-long = zeros-length count 8 (small .1) ∙ e₂;
+    normals-long = zeros-length (pos 0) (count * n) 48 (small .0) ∙ rw (e₁, e₂);
+    bounds-long = zeros-length (pos 0) count 8 (small .1) ∙ e₂;
   }

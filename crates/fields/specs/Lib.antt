@@ -2,7 +2,8 @@
 --     Refusal        the number that refuses a field by its body
 --     Layout         a body that is as long as its counts say; a field's causes in parts
 --     Sets           fields whose body is a set: its causes in parts
---     Steps          a step: its causes in parts, and what it leaves in its work slices
+--     Steps          steps and ranged steps: their causes in parts, and what they leave in their work slices
+--     Entries        their entries and half-widths in arrays
 --     Disturbances   a disturbance: its causes in parts
 --     Reductions     a reduction: its causes in parts
 --     Checks         a check: its causes are those of its region
@@ -10,6 +11,7 @@ pub mod Refusal
 pub mod Layout
 pub mod Sets
 pub mod Steps
+pub mod Entries
 pub mod Disturbances
 pub mod Reductions
 pub mod Checks

@@ -1,36 +1,39 @@
--- Steps: their causes in parts, and what a step leaves in its work slices.
-use mathlib.Core.Path.{_≡_, refl, sym, subst, _∙_}
-use mathlib.Core.List.{List}
+-- Steps and ranged steps: their causes in parts, and what they leave in their work slices.
+use mathlib.Core.Path.{_≡_, refl, sym, ap, _∙_}
+use mathlib.Core.List.{List, [], _∷_, _++_}
 use mathlib.Core.Option.{Option, none}
-use mathlib.Core.Bool.{true, false, true≢false}
-use Prim.Native.Nat.{ℕ, _*_, _-_, _≤_}
-use native.Mathlib.Nat.{mul-le-mul}
-use native.Mathlib.Omega.{arith}
+use mathlib.Core.Bool.{Bool, true, false, _||_, true≢false}
+use Prim.Native.Nat.{ℕ}
 use borrow.Author.Tests.{eq-eqb, le-ltb}
 use lib.Dec.{eqb}
-use lib.ListN.{length, replicate, length-replicate}
-use lib.Seq.{length-take-le}
+use lib.ListN.{length}
 use lib.IntN.{ℤ, pos}
-use Rattle.whole.specs.Tab.{length-tab}
+use Rattle.whole.specs.Tab.{length-tab, map-tab}
 use Rattle.model.specs.Limits.{standardWeights}
+use Rattle.model.specs.Set.{Zonotope}
 use Rattle.model.specs.Valid.{tooWide}
 use Rattle.model.specs.Step as Step
 use Rattle.model.specs.Step.{Step}
-use Rattle.model.specs.Body.{stepRows, stepColumns, stepLength, givenStep}
-use Rattle.model.specs.Field.{step, meaning, differs}
-use Rattle.model.specs.Run.{Cause, firstOf}
-use Rattle.model.specs.Library.{badStepLengths, badStepRange, ofStep}
+use Rattle.model.specs.Ranged as Ranged
+use Rattle.model.specs.Ranged.{Widths}
+use Rattle.model.specs.Body.{stepColumns, stepLength, givenStep, rangedLength, givenWidths}
+use Rattle.model.specs.Field.{Kind, step, rangedStep, meaning, ofStepBody, differs, badStepRange, negativeWidth, badWidthRange}
+use Rattle.model.specs.Run.{Cause, _if_, firstOf, ofBody}
+use Rattle.model.specs.Library.{badStepLengths, badWidthLengths, ofStep, ofRangedStep}
 use Rattle.zonotope.specs.declared.PolyZonotope.{PolyZonotope}
+use Rattle.zonotope.specs.declared.Examined.{Examined}
+use Rattle.zonotope.specs.declared.Examined.the-variants.{Accepted, Refused}
 use Rattle.zonotope.specs.Record.{view}
-use Rattle.zonotope.specs.Answer.{orElse}
+use Rattle.zonotope.specs.Answer.{examined, orElse, first-append}
 use Rattle.answers.specs.declared.Changed.{Changed}
-use Rattle.answers.specs.Answer.{answered, ofResult}
-use Rattle.answers.specs.Finishing.{part}
+use Rattle.answers.specs.Answer.{answered, ofResult, isRefused, none-refuses, answer-refused, answer-next}
+use Rattle.answers.specs.Order.{neither}
 use Rattle.raw.specs.Append.{KeptFrom}
-use Rattle.image.specs.StepAccepted.{stepOf}
+use Rattle.image.specs.StepAccepted.{StepAccepted}
+use Rattle.widths.specs.Widths.{WidthsAccepted}
+use Rattle.stepping.specs.Arguments.{ranged-in}
 use Rattle.stepping.specs.Work.{workNumbers, workExponents, worked, result-worked}
-use Rattle.stepping.specs.Arguments.{counts-in}
-use Rattle.bodies.specs.Fields.{stepCountsOut, StepBody}
+use Rattle.bodies.specs.Fields.{stepCountsOut}
 use Rattle.fields.specs.Refusal.{bodyRefusal, resultOf}
 use Rattle.fields.specs.Layout.{layout, LaidOut, ofNumbers, in-parts}
 
@@ -40,36 +43,110 @@ pub record Worked {A : Type 0} (d : A) (o : Option ℕ) (n : ℕ) (before after 
   pub untouched : worked o ≡ false → after ≡ before
   pub kept : KeptFrom d n before after
 
--- the body of a step is as long as its counts say: 3, 4, 3
-abbrev pub stepLayout : List ℕ → List Cause
-stepLayout b = layout 2 (stepCountsOut b) (stepLength b) (length b)
+-- a step's kind, by whether half-widths follow, and the length of its body
+abbrev pub stepKind : Bool → Kind
+stepKind false = step
+stepKind true = rangedStep
 
-abbrev pub StepLaid : List ℕ → Type 0
-StepLaid b = LaidOut 2 (stepCountsOut b) (stepLength b) (length b)
+abbrev pub lengthOf : Bool → List ℕ → ℕ
+lengthOf false b = stepLength b
+lengthOf true b = rangedLength b
 
--- the number that refuses a step p by its own numbers or by its result
-abbrev pub ofStepped : Step → PolyZonotope → Option ℕ
-ofStepped p s = orElse (firstOf (ofStep p (s .dimension))) (ofResult (Step.step standardWeights p (view s)))
+-- it is as long as its counts say: 3, 4, 3
+abbrev pub layoutOf : List ℕ → ℕ → List Cause
+layoutOf b bytes = layout 2 (stepCountsOut b) bytes (length b)
 
--- what is answered for a step p, and what it leaves in its work slices
-pub record Stepped (p : Step) (s : PolyZonotope) (r : Changed) (w₀ w : List ℤ) (e₀ e : List ℕ) : Type 0 where
-  pub answer : r ≡ answered (ofStepped p s) s (Step.step standardWeights p (view s))
-  pub numbers : Worked (pos 0) (ofStepped p s) workNumbers w₀ w
-  pub exponents : Worked 0 (ofStepped p s) workExponents e₀ e
+abbrev pub BodyLaid : List ℕ → ℕ → Type 0
+BodyLaid b bytes = LaidOut 2 (stepCountsOut b) bytes (length b)
 
--- ---- the order of a step's causes
-module _ (b : List ℕ) (s : PolyZonotope) where
-  -- 5 and 6, then the result
-  abbrev pub afterLayout : Option ℕ
-  afterLayout = orElse (firstOf (ofNumbers (differs (stepColumns b) (s .dimension)) (badStepRange (givenStep b))))
-      (ofResult (Step.step standardWeights (givenStep b) (view s)))
+-- the number that refuses a step by its own causes or by its result
+abbrev pub ofStepped : List Cause → Zonotope → Option ℕ
+ofStepped own result = orElse (firstOf own) (ofResult result)
 
-  pub step-order : bodyRefusal step b 0 (view s) ≡ orElse (firstOf (stepLayout b)) afterLayout
-  unfolding meaning view
-  step-order =
-      in-parts (stepLayout b) (differs (stepColumns b) (s .dimension)) (badStepRange (givenStep b))
-      (tooWide (Step.step standardWeights (givenStep b) (view s)))
+-- what is answered for a step with these causes of its own and this result, and what it leaves in its work slices
+pub record Stepped (own : List Cause) (result : Zonotope) (s : PolyZonotope) (r : Changed) (w₀ w : List ℤ) (e₀ e : List ℕ) : Type 0 where
+  pub answer : r ≡ answered (ofStepped own result) s result
+  pub numbers : Worked (pos 0) (ofStepped own result) workNumbers w₀ w
+  pub exponents : Worked 0 (ofStepped own result) workExponents e₀ e
 
+-- for the step p
+abbrev pub SteppedBy : Step → PolyZonotope → Changed → List ℤ → List ℤ → List ℕ → List ℕ → Type 0
+SteppedBy p s r w₀ w e₀ e = Stepped (ofStep p (s .dimension)) (Step.step standardWeights p (view s)) s r w₀ w e₀ e
+
+-- for a ranged step, whose half-widths are sizes of words of which one may be negative
+abbrev pub ofRangedWords : Step → Widths → Bool → ℕ → List Cause
+ofRangedWords p d negative dimension = ofRangedStep p d dimension ++ ((6 if negative) ∷ [])
+
+abbrev pub RangedBy : Step → Widths → Bool → PolyZonotope → Changed → List ℤ → List ℤ → List ℕ → List ℕ → Type 0
+RangedBy p d negative s r w₀ w e₀ e =
+    Stepped (ofRangedWords p d negative (s .dimension)) (Ranged.rangedStep standardWeights p d (view s)) s r w₀ w e₀ e
+
+-- ---- the work slices
+module _ {A : Type 0} (d : A) (o : Option ℕ) (n : ℕ) where
+  slice-untouched : (xs : List A) → Worked d o n xs xs
+  slice-untouched xs = record { untouched = λ h. refl; kept = record { place = λ x l. refl } }
+
+  slice-worked : {before after : List A} → worked o ≡ true → KeptFrom d n before after → Worked d o n before after
+  slice-worked e k = record { untouched = λ h. absurd (true≢false (sym e ∙ h)); kept = k }
+
+-- ---- from the answer to a step's own causes
+module _ (own : List Cause) (result : Zonotope) (s : PolyZonotope) {o : Examined} (from : o ≡ examined (firstOf own)) where
+  pub stepped-refused : isRefused o ≡ true → (w : List ℤ) (e : List ℕ) → Stepped own result s (record { outcome = o; set = s }) w w e e
+  stepped-refused h w e = record {
+    answer = answer-refused (firstOf own) (ofResult result) from refl s result h;
+    numbers = slice-untouched (pos 0) (ofStepped own result) workNumbers w;
+    exponents = slice-untouched 0 (ofStepped own result) workExponents e;
+  }
+
+  pub stepped-worked : isRefused o ≡ false → {r : Changed} {w₀ w : List ℤ} {e₀ e : List ℕ} → r ≡ answered (ofResult result) s result
+      → KeptFrom (pos 0) workNumbers w₀ w → KeptFrom 0 workExponents e₀ e → Stepped own result s r w₀ w e₀ e
+  stepped-worked h a kw ke =
+      let done : worked (ofStepped own result) ≡ true = rw (none-refuses (firstOf own) from h) (result-worked result) in record {
+        answer = answer-next (firstOf own) (ofResult result) from refl s result h a;
+        numbers = slice-worked (pos 0) (ofStepped own result) workNumbers done kw;
+        exponents = slice-worked 0 (ofStepped own result) workExponents done ke;
+      }
+
+-- ---- a field whose body begins with a step, by its length, by whether a number is out of range, and by its result
+module _ (b : List ℕ) (bytes : ℕ) (range : Bool) (s : PolyZonotope) (result : Zonotope) where
+  -- the number that refuses it
+  abbrev fieldRefusal : Option ℕ
+  fieldRefusal = firstOf (ofBody (ofStepBody b bytes range (view s) 0 result) (length b))
+
+  -- what is answered, and what is left in the work slices
+  abbrev FieldStepped : Changed → List ℤ → List ℤ → List ℕ → List ℕ → Type 0
+  FieldStepped r w₀ w e₀ e =
+      (r ≡ answered fieldRefusal s result)
+      × (Worked (pos 0) fieldRefusal workNumbers w₀ w × Worked 0 fieldRefusal workExponents e₀ e)
+
+  -- 5 and 6
+  abbrev numbers : List Cause
+  numbers = ofNumbers (differs (stepColumns b) (s .dimension)) range
+
+  field-order : fieldRefusal ≡ orElse (firstOf (layoutOf b bytes)) (ofStepped numbers result)
+  unfolding view
+  field-order = in-parts (layoutOf b bytes) (differs (stepColumns b) (s .dimension)) range (tooWide result)
+
+  layout-refused : {o : Examined} → o ≡ examined (firstOf (layoutOf b bytes)) → isRefused o ≡ true → (w : List ℤ) (e : List ℕ)
+      → FieldStepped (record { outcome = o; set = s }) w w e e
+  layout-refused from h w e = (
+    answer-refused (firstOf (layoutOf b bytes)) (ofStepped numbers result) from field-order s result h,
+    (slice-untouched (pos 0) fieldRefusal workNumbers w, slice-untouched 0 fieldRefusal workExponents e),
+  )
+
+  -- in a body that is laid out, it is answered by causes that are 5 and 6
+  laid-stepped : BodyLaid b bytes → (own : List Cause) → firstOf own ≡ firstOf numbers
+      → {r : Changed} {w₀ w : List ℤ} {e₀ e : List ℕ} → Stepped own result s r w₀ w e₀ e → FieldStepped r w₀ w e₀ e
+  unfolding firstOf
+  laid-stepped h own same k = rw order (k .answer, (k .numbers, k .exponents))
+    where
+      order : fieldRefusal ≡ ofStepped own result
+      order =
+          field-order
+          ∙ rw (le-ltb (length b) 2 (h .counts-in), h .right, eq-eqb (length b) bytes (h .whole))
+          (ap (λ (o : Option ℕ). orElse o (ofResult result)) (sym same))
+
+-- ---- the two kinds: in a body that is laid out, what the counts and lengths ask doesn't hold
 same : (n : ℕ) → eqb n n ≡ true
 same n = eq-eqb n n refl
 
@@ -77,70 +154,92 @@ lengths-right : (b : List ℕ) → badStepLengths (givenStep b) ≡ false
 unfolding givenStep
 lengths-right b = simp (length-tab, same)
 
-module _ (b : List ℕ) (s : PolyZonotope) (h : StepLaid b) where
-  -- in a body that is laid out, what `ofStep` asks first doesn't hold
-  laid-order : bodyRefusal step b 0 (view s) ≡ ofStepped (givenStep b) s
+width-lengths-right : (b : List ℕ) → badWidthLengths (givenStep b) (givenWidths b) ≡ false
+unfolding givenStep givenWidths
+width-lengths-right b = simp (map-tab, length-tab, same)
+
+module _ (b : List ℕ) (s : PolyZonotope) where
+  -- their own causes, whether a number is out of range, and what they give
+  abbrev ownCauses : Bool → List Cause
+  ownCauses false = ofStep (givenStep b) (s .dimension)
+  ownCauses true = ofRangedWords (givenStep b) (givenWidths b) (negativeWidth b) (s .dimension)
+
+  abbrev rangeOf : Bool → Bool
+  rangeOf false = badStepRange (givenStep b)
+  rangeOf true = badStepRange (givenStep b) || (negativeWidth b || badWidthRange (givenStep b) (givenWidths b))
+
+  abbrev imageOf : Bool → Zonotope
+  imageOf false = Step.step standardWeights (givenStep b) (view s)
+  imageOf true = Ranged.rangedStep standardWeights (givenStep b) (givenWidths b) (view s)
+
+  -- the step that the body gives, once it is laid out
+  abbrev pub GivenStepped : Bool → Changed → List ℤ → List ℤ → List ℕ → List ℕ → Type 0
+  GivenStepped ranged r w₀ w e₀ e = Stepped (ownCauses ranged) (imageOf ranged) s r w₀ w e₀ e
+
+  own-causes : (ranged : Bool) → stepCountsOut b ≡ false
+      → firstOf (ownCauses ranged) ≡ firstOf (ofNumbers (differs (stepColumns b) (s .dimension)) (rangeOf ranged))
   unfolding firstOf givenStep
-  laid-order =
-      step-order b s
-      ∙ rw (le-ltb (length b) 2 (h .counts-in), h .right, eq-eqb (length b) (stepLength b) (h .whole), lengths-right b)
+  own-causes false right = rw (right, lengths-right b)
+  own-causes true right =
+      rw (right, lengths-right b, width-lengths-right b)
+      (by-case (differs (stepColumns b) (s .dimension)) (badStepRange (givenStep b)) (badWidthRange (givenStep b) (givenWidths b))
+      (negativeWidth b))
+    where
+      by-case : (five entries widths negative : Bool)
+          → firstOf ((5 if five) ∷ (6 if entries) ∷ (6 if widths) ∷ (6 if negative) ∷ [])
+          ≡ firstOf (ofNumbers five (entries || (negative || widths)))
+      by-case true entries widths negative = refl
+      by-case false true widths negative = refl
+      by-case false false true true = refl
+      by-case false false true false = refl
+      by-case false false false true = refl
+      by-case false false false false = refl
 
-  -- so it is answered by the step that it gives
-  pub laid-stepped : {r : Changed} {w₀ w : List ℤ} {e₀ e : List ℕ} → Stepped (givenStep b) s r w₀ w e₀ e
-      → (r ≡ answered (bodyRefusal step b 0 (view s)) s (resultOf step b 0 (view s)))
-      × (Worked (pos 0) (bodyRefusal step b 0 (view s)) workNumbers w₀ w × Worked 0 (bodyRefusal step b 0 (view s)) workExponents e₀ e)
-  unfolding meaning
-  laid-stepped k = rw laid-order (k .answer, (k .numbers, k .exponents))
+  -- what `step` promises
+  abbrev pub KindStepped : Bool → Changed → List ℤ → List ℤ → List ℕ → List ℕ → Type 0
+  KindStepped ranged r w₀ w e₀ e =
+      (r ≡ answered (bodyRefusal (stepKind ranged) b 0 (view s)) s (resultOf (stepKind ranged) b 0 (view s)))
+      × (Worked (pos 0) (bodyRefusal (stepKind ranged) b 0 (view s)) workNumbers w₀ w
+      × Worked 0 (bodyRefusal (stepKind ranged) b 0 (view s)) workExponents e₀ e)
 
--- ---- the work slices
-module _ {A : Type 0} (d : A) (o : Option ℕ) (n : ℕ) where
-  pub slice-untouched : (xs : List A) → Worked d o n xs xs
-  slice-untouched xs = record { untouched = λ h. refl; kept = record { place = λ x l. refl } }
+  module _ {r : Changed} {w₀ w : List ℤ} {e₀ e : List ℕ} where
+    by-kind : (ranged : Bool) → FieldStepped b (lengthOf ranged b) (rangeOf ranged) s (imageOf ranged) r w₀ w e₀ e
+        → KindStepped ranged r w₀ w e₀ e
+    unfolding meaning
+    by-kind false k = k
+    by-kind true k = k
 
-  pub slice-worked : {before after : List A} → worked o ≡ true → KeptFrom d n before after → Worked d o n before after
-  slice-worked e k = record { untouched = λ h. absurd (true≢false (sym e ∙ h)); kept = k }
+    pub kind-stepped : (ranged : Bool) → BodyLaid b (lengthOf ranged b) → GivenStepped ranged r w₀ w e₀ e → KindStepped ranged r w₀ w e₀ e
+    kind-stepped ranged laid k =
+        by-kind ranged (laid-stepped b (lengthOf ranged b) (rangeOf ranged) s (imageOf ranged) laid (ownCauses ranged)
+        (own-causes ranged (laid .right)) k)
 
--- a step whose own numbers don't refuse it is worked out
-pub stepped-worked : (p : Step) (s : PolyZonotope) → firstOf (ofStep p (s .dimension)) ≡ none → worked (ofStepped p s) ≡ true
-stepped-worked p s e = rw e (result-worked (Step.step standardWeights p (view s)))
+  pub kind-refused : (ranged : Bool) {o : Examined} → o ≡ examined (firstOf (layoutOf b (lengthOf ranged b))) → isRefused o ≡ true
+      → (w : List ℤ) (e : List ℕ) → KindStepped ranged (record { outcome = o; set = s }) w w e e
+  kind-refused ranged from h w e =
+      by-kind ranged (layout-refused b (lengthOf ranged b) (rangeOf ranged) s (imageOf ranged) from h w e)
 
--- ---- the entries in arrays
--- the first n places of an array of N
-abbrev pub zeros : ℕ → ℕ → List ℤ
-zeros n N = part n (replicate N (pos 0))
+-- ---- the own causes of a ranged step
+-- the answers for the signs
+abbrev pub ofSigns : Bool → Option ℕ
+ofSigns negative = firstOf ((6 if negative) ∷ [])
 
-pub zeros-length : (n N : ℕ) → n ≤ N → length (zeros n N) ≡ n
-zeros-length n N h = length-take-le (n - 0) (replicate N (pos 0)) (omega (arith, length-replicate {A = ℤ} N (pos 0))) ∙ omega arith
+pub some-negative : {negative : Bool} → negative ≡ true → Refused 6 ≡ examined (ofSigns negative)
+unfolding firstOf
+some-negative e = rw e
 
--- the counts of a body that is laid out
-pub laid-counts : (b : List ℕ) → StepLaid b → (stepRows b ≤ 6) × (stepColumns b ≤ 6)
-unfolding givenStep
-laid-counts b h = counts-in (givenStep b) (h .right)
+pub none-negative : {negative : Bool} → negative ≡ false → Accepted ≡ examined (ofSigns negative)
+unfolding firstOf
+none-negative e = rw e
 
--- counts that are read from it
-module _ (b : List ℕ) (h : StepLaid b) {m n : ℕ} (e₁ : m ≡ stepRows b) (e₂ : n ≡ stepColumns b) where
-  pub entries-few : (m ≤ 6) × (n ≤ 6) × (m * n ≤ 36) × (m * n * n ≤ 216)
-  entries-few =
-      let k = laid-counts b h in
-      let rows : m ≤ 6 = omega arith in
-      let columns : n ≤ 6 = omega arith in
-      let two = mul-le-mul {n₁ = m} {m₁ = n} {n₂ = 6} {m₂ = 6} rows columns in
-      (rows, columns, two, mul-le-mul {n₁ = m * n} {m₁ = n} {n₂ = 36} {m₂ = 6} two columns)
+module _ (p : Step) (d : Widths) (negative : Bool) (dimension : ℕ) where
+  pub words-parts : firstOf (ofRangedWords p d negative dimension)
+      ≡ orElse (firstOf (ofRangedStep p d dimension)) (ofSigns negative)
+  words-parts = first-append (ofRangedStep p d dimension) ((6 if negative) ∷ [])
 
-  -- parts of arrays that have room for the entries
-  pub entries-room : StepBody b (length (zeros m 6)) (length (zeros (m * n) 36)) (length (zeros (m * n * n) 216))
-  entries-room = let few = entries-few in record {
-    long = h .whole;
-    constant = zeros-length m 6 (few .0) ∙ e₁;
-    linear = zeros-length (m * n) 36 (few .2) ∙ rw (e₁, e₂);
-    quadratic = zeros-length (m * n * n) 216 (few .3) ∙ rw (e₁, e₂);
-  }
-
--- entries that are read from it are those of its step
-pub entries-stepped : (b : List ℕ) {m n : ℕ} {c a q : List ℤ} → m ≡ stepRows b → n ≡ stepColumns b
-    → (c ≡ givenStep b .constant) × (a ≡ givenStep b .linear) × (q ≡ givenStep b .quadratic)
-    → {s : PolyZonotope} {r : Changed} {w₀ w : List ℤ} {e₀ e : List ℕ}
-    → Stepped (stepOf m n c a q) s r w₀ w e₀ e → Stepped (givenStep b) s r w₀ w e₀ e
-unfolding givenStep
-entries-stepped b e₁ e₂ k {s} {r} {w₀} {w} {e₀} {e} h =
-    subst (λ (p : Step). Stepped p s r w₀ w e₀ e) (rw (e₁, e₂, k .0, k .1, k .2)) h
+  -- where none holds
+  pub words-in : firstOf (ofRangedWords p d negative dimension) ≡ none
+      → StepAccepted p × WidthsAccepted (p .rows) (p .columns) (d .linear) (d .quadratic)
+  words-in e =
+      ranged-in p d dimension
+      (neither (firstOf (ofRangedStep p d dimension)) (ofSigns negative) (sym words-parts ∙ e) .0)

@@ -1,47 +1,21 @@
 -- An answer accepts its field exactly where the definitions do, and what its case tells of the outcome.
 use mathlib.Core.Path.{_≡_, refl, _∙_, ap}
-use mathlib.Core.List.{List, [], _∷_}
+use mathlib.Core.List.{List}
 use mathlib.Core.Option.{Option, none, some}
-use mathlib.Core.Bool.{Bool, true, false, cond, true≢false}
-use Prim.Native.Nat.{ℕ, zero, suc, _≤_}
+use mathlib.Core.Bool.{Bool, true, false, cond}
+use Prim.Native.Nat.{ℕ}
 use native.Mathlib.Omega.{arith}
-use borrow.Author.Tests.{ltb-false, eqb-true, not-false}
-use lib.Dec.{ltb}
-use Rattle.whole.specs.Tests.{or-left, or-right}
-use Rattle.model.specs.Limits.{lastTag}
 use Rattle.model.specs.Set.{Zonotope}
 use Rattle.model.specs.Field as Model
 use Rattle.model.specs.Field.{Kind, unknown, inside, verdict, refused, skipped, meaning}
 use Rattle.model.specs.Run as Run
-use Rattle.model.specs.Run.{tag, body, kindOf, misplaced, cut, current, meant, refusal, accepted, outcome}
+use Rattle.model.specs.Run.{tag, body, kindOf, current, meant, refusal, accepted, outcome}
 use Rattle.model.proofs.Accepted.{no-refusal}
+use Rattle.model.proofs.ByKind.{known}
 use Rattle.model.proofs.Answers.{Answers, with-box, with-verdict, with-nothing, answers}
 use Rattle.states.specs.declared.Outcome.{Outcome}
 use Rattle.states.specs.declared.Outcome.the-variants.{Inside, Safe}
 use Rattle.states.specs.Answer.{outcomeOf, boxOf, accepts}
-
--- ---- a field that is accepted has a kind
-known-tag : (t : ℕ) → 1 ≤ t → t ≤ lastTag → kindOf t ≡ unknown → ⊥
-unfolding kindOf
-known-tag zero l h e = omega arith
-known-tag (suc zero) l h e = let z : _≡_ {A = ℕ} 0 1 = cc in omega arith
-known-tag (suc (suc zero)) l h e = let z : _≡_ {A = ℕ} 0 1 = cc in omega arith
-known-tag (suc (suc (suc zero))) l h e = let z : _≡_ {A = ℕ} 0 1 = cc in omega arith
-known-tag (suc (suc (suc (suc zero)))) l h e = let z : _≡_ {A = ℕ} 0 1 = cc in omega arith
-known-tag (suc (suc (suc (suc (suc zero))))) l h e = let z : _≡_ {A = ℕ} 0 1 = cc in omega arith
-known-tag (suc (suc (suc (suc (suc (suc zero)))))) l h e = let z : _≡_ {A = ℕ} 0 1 = cc in omega arith
-known-tag (suc (suc (suc (suc (suc (suc (suc zero))))))) l h e = let z : _≡_ {A = ℕ} 0 1 = cc in omega arith
-known-tag (suc (suc (suc (suc (suc (suc (suc (suc zero)))))))) l h e = let z : _≡_ {A = ℕ} 0 1 = cc in omega arith
-known-tag (suc (suc (suc (suc (suc (suc (suc (suc (suc t))))))))) l h e = omega arith
-
-pub known : (count : ℕ) (f : List ℕ) → misplaced count f ≡ false → cut f ≡ false → kindOf (tag f) ≡ unknown → ⊥
-unfolding misplaced cut
-known count [] p q e = true≢false q
-known zero (t ∷ f) p q e = let h = eqb-true t 1 (not-false _ p) in known-tag t (omega arith) (omega arith) e
-known (suc n) (t ∷ f) p q e =
-    let a = ltb-false t 2 (or-left (ltb t 2) (ltb lastTag t) p) in
-    let b = ltb-false lastTag t (or-right (ltb t 2) (ltb lastTag t) p) in
-    known-tag t (omega arith) b e
 
 -- ---- what is answered where no cause holds
 answered : (k : Kind) (b : List ℕ) (next : ℕ) (s : Zonotope) → (k ≡ unknown → ⊥) → accepts (outcomeOf (meaning k b next s .outcome)) ≡ true

@@ -14,7 +14,7 @@ is-hull e =
     let s = start e in
     last-is (s .args .t) (s .pre .0 .known) (e .before .before .before .before .before .if1 .left) (s .pre .1)
     (e .before .before .before .before .if2 .left) (e .before .before .before .if3 .left) (e .before .before .if4 .left)
-    (e .before .if5 .left) (e .if6 .left)
+    (e .before .if5 .left) (e .if6 .left) (s .pre .2)
 
 started-requires : tie.Need-started-requires
 started-requires c κs = let s = c .before .before in (s .pre .0 .running, s .pre .0 .few)

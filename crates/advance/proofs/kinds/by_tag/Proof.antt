@@ -9,6 +9,7 @@ use borrow.Author.Needs.{needs}
 use Rattle.advance.proofs.kinds.by_tag.Statement.{statement}
 use Rattle.advance.proofs.kinds.by_tag.Tie as tie
 
+-- ---- a step
 stepped-requires : tie.Need-stepped-requires
 stepped-requires c κs =
     let i = c .before .before in let s = i .before .before .before in
@@ -27,13 +28,43 @@ returns c =
     let t = c .before .before .before in let i = t .before .before .before in let a = i .before .before .before .args in
     (tag-advanced 2 (a .place) (a .st) (a .body .now) (a .bytes) (i .if1 .taken) (t .stepped .ensures .0), t .stepped .ensures .1)
 
-by-other-tag-requires : tie.Need-by-other-tag-requires
-by-other-tag-requires c κs = (c .before .before .before .pre .0, c .if1 .left)
+-- ---- a ranged step
+stepped-requires-2 : tie.Need-stepped-requires-2
+stepped-requires-2 c κs =
+    let i = c .before .before in let s = i .before .before .before .before in
+    let l = later (s .pre .0) (λ z. omega (arith, z, i .if2 .taken)) in
+    (l .0, l .1, l .2, s .pre .1, s .pre .2)
+
+same-length-3 : tie.Need-same-length-3
+same-length-3 c = search needs
+
+same-length-4 : tie.Need-same-length-4
+same-length-4 c = search needs
 
 returns-2 : tie.Need-returns-2
-returns-2 c = (c .by-other-tag .ensures, (not-used _ (pos 0) workNumbers _, not-used _ 0 workExponents _))
+unfolding kindOf
+returns-2 c =
+    let t = c .before .before .before in let i = t .before .before .before in let a = i .before .before .before .before .args in
+    (tag-advanced 9 (a .place) (a .st) (a .body .now) (a .bytes) (i .if2 .taken) (t .stepped2 .ensures .0), t .stepped2 .ensures .1)
+
+-- ---- another tag
+by-other-tag-requires : tie.Need-by-other-tag-requires
+by-other-tag-requires c κs = (c .before .before .before .before .pre .0, c .before .if1 .left, c .if2 .left)
+
+returns-3 : tie.Need-returns-3
+returns-3 c = (c .by-other-tag .ensures, (not-used _ (pos 0) workNumbers _, not-used _ 0 workExponents _))
 
 pub by-tag-spec : {M : Type 1} → statement M
 by-tag-spec =
     tie.close
-    (tie.spec stepped-requires same-length same-length-2 returns by-other-tag-requires returns-2)
+    (tie.spec
+    stepped-requires
+    same-length
+    same-length-2
+    returns
+    stepped-requires-2
+    same-length-3
+    same-length-4
+    returns-2
+    by-other-tag-requires
+    returns-3)

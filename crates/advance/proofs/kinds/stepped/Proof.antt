@@ -1,10 +1,11 @@
 -- `kinds::stepped` meets its contract.
-use mathlib.Core.Path.{_≡_, _∙_}
-use Rattle.model.specs.Field.{step}
+use mathlib.Core.Path.{_≡_, sym, ap, _∙_}
+use mathlib.Core.Bool.{_&&_}
 use Rattle.zonotope.specs.Record.{view}
 use Rattle.stepping.specs.Work.{worked}
 use Rattle.fields.specs.Refusal.{bodyRefusal, resultOf}
-use Rattle.advance.specs.Kinds.{plain-step}
+use Rattle.fields.specs.Steps.{stepKind}
+use Rattle.advance.specs.Kinds.{plain-stepped, stepped-works}
 use Rattle.advance.specs.CallLaws.{made-limits, made-advanced, worked-told, worked-said, step-used}
 use borrow.Author.Needs.{needs}
 use Rattle.advance.proofs.kinds.stepped.Statement.{statement}
@@ -17,23 +18,28 @@ abbrev called : tie.After-was-worked → tie.After-step
 called w = w .before .before .before .before
 
 -- whether the step was worked out
-told : (w : tie.After-was-worked)
-    → (let a = start (called w) .args in w .was-worked .result ≡ worked (bodyRefusal step (a .body .now) 0 (view (a .st .set))))
+told : (w : tie.After-was-worked) → (let a = start (called w) .args in
+    w .was-worked .result ≡ worked (bodyRefusal (stepKind (a .ranged)) (a .body .now) 0 (view (a .st .set))))
 told w =
     let t = called w in let a = start t .args in let u = view (a .st .set) in
     w .was-worked .ensures
-    ∙ worked-told (bodyRefusal step (a .body .now) 0 u) (a .st .set) (resultOf step (a .body .now) 0 u) (t .step .ensures .0)
+    ∙ worked-told (bodyRefusal (stepKind (a .ranged)) (a .body .now) 0 u) (a .st .set) (resultOf (stepKind (a .ranged)) (a .body .now) 0 u)
+    (t .step .ensures .0)
 
 step-requires : tie.Need-step-requires
-step-requires c κs = let s = c .before .before .before .before .before in (s .pre .0 .set (s .pre .1), s .pre .3, s .pre .4)
+step-requires c κs =
+    let s = c .before .before .before .before .before in (s .pre .0 .set (s .pre .1), s .pre .3, s .pre .4)
 
 was-worked-requires : tie.Need-was-worked-requires
 was-worked-requires c κs = search needs
 
 changed-requires : tie.Need-changed-requires
 changed-requires c κs =
-    let t = called c in let s = start t in
-    (made-limits (s .args .st) (s .pre .0) (s .pre .1) plain-step (s .args .body .now) (t .step .ensures .0), s .pre .2)
+    let t = called c in let s = start t in (
+      made-limits (s .args .st) (s .pre .0) (s .pre .1) (plain-stepped (s .args .ranged)) (s .args .body .now)
+          (t .step .ensures .0),
+      s .pre .2,
+    )
 
 same-length : tie.Need-same-length
 same-length c = search needs
@@ -45,9 +51,10 @@ returns : tie.Need-returns
 returns c =
     let t = called (c .before) in let s = start t in let a = s .args in
     let yes = worked-said (a .st) (a .place) (a .bytes) (a .st .next) (t .step .result) (c .before .was-worked .result)
-    (c .changed .ensures) ∙ told (c .before) in (
-      made-advanced (a .st) (s .pre .0) (s .pre .1) plain-step (a .body .now) (t .step .ensures .0) (a .place) (a .bytes)
-          (told (c .before)) (c .changed .ensures),
+    (c .changed .ensures) ∙ told (c .before) in
+    let steps = ap (_&& worked (bodyRefusal (stepKind (a .ranged)) (a .body .now) 0 (view (a .st .set)))) (stepped-works (a .ranged)) in (
+      made-advanced (a .st) (s .pre .0) (s .pre .1) (plain-stepped (a .ranged)) (a .body .now) (t .step .ensures .0)
+          (a .place) (a .bytes) (told (c .before) ∙ sym steps) (c .changed .ensures),
       (step-used yes (t .step .ensures .1 .0), step-used yes (t .step .ensures .1 .1)),
     )
 

@@ -21,22 +21,22 @@ step-counts-out-requires c κs = search needs
 returns-2 : tie.Need-returns-2
 returns-2 c = counts-wrong _ _ _ _ (c .before .before .if1 .left) (wrong (c .before) (c .if2 .taken))
 
-step-length-requires : tie.Need-step-length-requires
-step-length-requires c κs = search needs
+length-by-counts-requires : tie.Need-length-by-counts-requires
+length-by-counts-requires c κs = search needs
 
 returns-3 : tie.Need-returns-3
 returns-3 c =
     let l = c .before .before in
     length-wrong _ _ _ _ (l .before .before .if1 .left) (wrong (l .before) (l .if2 .left))
-    (λ e. c .if3 .taken (e ∙ sym (c .before .step-length .ensures)))
+    (λ e. c .if3 .taken (e ∙ sym (c .before .length-by-counts .ensures)))
 
 returns-4 : tie.Need-returns-4
 returns-4 c =
     let l = c .before .before in
     nothing-wrong _ _ _ _ (l .before .before .if1 .left) (wrong (l .before) (l .if2 .left))
-    (c .if3 .left ∙ c .before .step-length .ensures)
+    (c .if3 .left ∙ c .before .length-by-counts .ensures)
 
 pub of-layout-spec : {M : Type 1} → statement M
 of-layout-spec =
     tie.close
-    (tie.spec returns step-counts-out-requires returns-2 step-length-requires returns-3 returns-4)
+    (tie.spec returns step-counts-out-requires returns-2 length-by-counts-requires returns-3 returns-4)
