@@ -3,7 +3,7 @@
 use crate::bounds::{Halfspace, MAX_HALFSPACES};
 use crate::finish::Limits;
 use crate::set::{Set, Term, MAX_DIMENSION, MAX_FACTORS, MAX_GENERATORS, MAX_TERMS};
-use crate::step::Step;
+use crate::step::{HalfWidths, Ranged, Step};
 
 pub const HEADER: usize = 3;
 
@@ -17,10 +17,11 @@ pub enum Field {
     Reduce(Limits),
     Check(Vec<Halfspace>),
     Hull(Set),
+    Ranged(Ranged),
 }
 
 pub fn is_known_tag(tag: u8) -> bool {
-    (1..=8).contains(&tag)
+    (1..=9).contains(&tag)
 }
 
 /// How many bytes at the start of a body are counts.
@@ -43,7 +44,7 @@ pub fn counts_fit(tag: u8, body: &[u8]) -> bool {
                 && at_most(body[2], MAX_TERMS)
                 && at_most(body[3], MAX_GENERATORS)
         }
-        2 => dimension(body[0]) && dimension(body[1]),
+        2 | 9 => dimension(body[0]) && dimension(body[1]),
         3 => dimension(body[0]),
         6 => at_most(body[0], MAX_TERMS) && at_most(body[1], MAX_GENERATORS),
         _ => dimension(body[0]) && body[1] > 0 && at_most(body[1], MAX_HALFSPACES),
@@ -58,9 +59,10 @@ pub fn expected_length(tag: u8, body: &[u8]) -> usize {
             let (n, p, h, q) = (count(0), count(1), count(2), count(3));
             4 + 4 * p + 4 * n + h * (p + 4 * n) + 4 * n * q + 4 * n
         }
-        2 => {
+        2 | 9 => {
             let (m, n) = (count(0), count(1));
-            2 + 4 * (m + m * n + m * n * n)
+            let entries = m * n + m * n * n;
+            2 + 4 * (m + if tag == 2 { entries } else { 2 * entries })
         }
         3 => 1 + 4 * count(0),
         6 => 2,
@@ -82,6 +84,7 @@ pub fn decode(tag: u8, body: &[u8]) -> Field {
         5 => Field::Tied(reader.set()),
         6 => Field::Reduce(Limits { terms: reader.count(), generators: reader.count() }),
         8 => Field::Hull(reader.set()),
+        9 => Field::Ranged(reader.ranged()),
         _ => {
             let (n, count) = (reader.count(), reader.count());
             let halfspace = |_| Halfspace { normal: reader.words(n), bound: reader.long() };
@@ -101,6 +104,7 @@ impl Field {
             Field::Reduce(_) => 6,
             Field::Check(_) => 7,
             Field::Hull(_) => 8,
+            Field::Ranged(_) => 9,
         }
     }
 
@@ -108,7 +112,7 @@ impl Field {
     pub fn taken_dimension(&self) -> Option<usize> {
         match self {
             Field::Start(_) | Field::Reduce(_) => None,
-            Field::Step(step) => Some(step.from_dimension()),
+            Field::Step(step) | Field::Ranged(Ranged { step, .. }) => Some(step.from_dimension()),
             Field::Disturbance(radii) => Some(radii.len()),
             Field::Independent(set) | Field::Tied(set) | Field::Hull(set) => Some(set.dimension()),
             Field::Check(region) => region.first().map(|halfspace| halfspace.normal.len()),
@@ -130,11 +134,10 @@ impl Field {
             Field::Start(set) | Field::Independent(set) | Field::Tied(set) | Field::Hull(set) => {
                 push_set(&mut body, set)
             }
-            Field::Step(step) => {
-                body.extend([step.constant.len() as u8, step.from_dimension() as u8]);
-                push_words(&mut body, &step.constant);
-                step.matrix.iter().for_each(|row| push_words(&mut body, row));
-                step.forms.iter().flatten().for_each(|row| push_words(&mut body, row));
+            Field::Step(step) => push_step(&mut body, step),
+            Field::Ranged(Ranged { step, half_widths }) => {
+                push_step(&mut body, step);
+                push_entries(&mut body, &half_widths.matrix, &half_widths.forms);
             }
             Field::Disturbance(radii) => {
                 body.push(radii.len() as u8);
@@ -164,6 +167,16 @@ fn push_set(body: &mut Vec<u8>, set: &Set) {
     }
     set.generators.iter().for_each(|generator| push_words(body, generator));
     push_words(body, &set.radii);
+}
+
+fn push_step(body: &mut Vec<u8>, step: &Step) {
+    body.extend([step.constant.len() as u8, step.from_dimension() as u8]);
+    push_words(body, &step.constant);
+    push_entries(body, &step.matrix, &step.forms);
+}
+
+fn push_entries(body: &mut Vec<u8>, matrix: &[Vec<i128>], forms: &[Vec<Vec<i128>>]) {
+    matrix.iter().chain(forms.iter().flatten()).for_each(|row| push_words(body, row));
 }
 
 fn push_words(body: &mut Vec<u8>, words: &[i128]) {
@@ -211,10 +224,20 @@ impl Reader<'_> {
 
     fn step(&mut self) -> Step {
         let (m, n) = (self.count(), self.count());
-        Step {
-            constant: self.words(m),
-            matrix: (0..m).map(|_| self.words(n)).collect(),
-            forms: (0..m).map(|_| (0..n).map(|_| self.words(n)).collect()).collect(),
-        }
+        Step { constant: self.words(m), matrix: self.rows(m, n), forms: self.forms(m, n) }
+    }
+
+    fn ranged(&mut self) -> Ranged {
+        let step = self.step();
+        let (m, n) = (step.constant.len(), step.from_dimension());
+        Ranged { step, half_widths: HalfWidths { matrix: self.rows(m, n), forms: self.forms(m, n) } }
+    }
+
+    fn rows(&mut self, rows: usize, columns: usize) -> Vec<Vec<i128>> {
+        (0..rows).map(|_| self.words(columns)).collect()
+    }
+
+    fn forms(&mut self, count: usize, n: usize) -> Vec<Vec<Vec<i128>>> {
+        (0..count).map(|_| self.rows(n, n)).collect()
     }
 }

@@ -10,7 +10,7 @@ use crate::fraction::{sum, Fraction};
 use crate::random::Random;
 use crate::run::{Accepted, Outcome, Refusal, Run, FIRST_MARK};
 use crate::set::Set;
-use crate::step::Step;
+use crate::step::{HalfWidths, Step};
 use crate::zonotope::contains;
 
 /// A step squares a motion's numbers; a motion whose numbers outgrow this is not followed further.
@@ -20,7 +20,7 @@ const LONG_BITS: usize = 192;
 const GRID: usize = 4;
 
 /// How a motion picks: always one end, an end at random, or also what lies between; 0 often, as even
-/// powers have an end there.
+/// powers have an end there. One end of a coefficient's range is that which takes the motion up, or down.
 #[derive(Clone, Copy, Debug)]
 pub enum Manner {
     High,
@@ -141,7 +141,8 @@ impl Motion {
                 self.mark += identifiers.len() as i128;
                 self.add_body(body, &identifiers);
             }
-            Field::Step(step) => self.place = image(step, &self.place),
+            Field::Step(step) => self.step(step, &step.exactly()),
+            Field::Ranged(ranged) => self.step(&ranged.step, &ranged.half_widths),
             Field::Disturbance(radii) => self.add_offsets(radii),
             Field::Reduce(_) | Field::Check(_) => {}
         }
@@ -164,6 +165,34 @@ impl Motion {
         self.place = if self.place.is_empty() { point } else { add(&self.place, &point) };
         self.numbers.extend(numbers);
         self.add_offsets(&body.radii);
+    }
+
+    /// The step's polynomial without rounding, each coefficient picked within its half-width of the entry.
+    fn step(&mut self, step: &Step, half_widths: &HalfWidths) {
+        let x = std::mem::take(&mut self.place);
+        let products: Vec<Vec<Fraction>> = x.iter().map(|a| x.iter().map(|b| a * b).collect()).collect();
+        for (i, constant) in step.constant.iter().enumerate() {
+            let linear = self.combination(&step.matrix[i], &half_widths.matrix[i], &x).over_power(12);
+            let rows = step.forms[i].iter().zip(&half_widths.forms[i]).zip(&products);
+            let quadratic = sum(rows.map(|((row, widths), products)| self.combination(row, widths, products)));
+            self.place.push(&(&Fraction::from(*constant) + &linear) + &quadratic.over_power(24));
+        }
+    }
+
+    /// The sum of the numbers in x, each times a coefficient picked for it.
+    fn combination(&mut self, entries: &[i128], half_widths: &[i128], x: &[Fraction]) -> Fraction {
+        let numbers = entries.iter().zip(half_widths).zip(x).filter(|((a, width), _)| (**a, **width) != (0, 0));
+        sum(numbers.map(|((a, width), x)| &self.pick_coefficient(*a, *width, x) * x))
+    }
+
+    /// A number within the half-width of the entry, to be multiplied by x.
+    fn pick_coefficient(&mut self, entry: i128, half_width: i128, x: &Fraction) -> Fraction {
+        if half_width == 0 {
+            return Fraction::from(entry);
+        }
+        let falls = *x < Fraction::zero() && matches!(self.manner, Manner::High | Manner::Low);
+        let most = Fraction::from(if falls { -half_width } else { half_width });
+        &Fraction::from(entry) + &(&most * &self.pick())
     }
 
     /// Adds an offset to each coordinate, picked or, where the number has become long, near the pick.
@@ -243,18 +272,6 @@ fn blend(v: &Fraction, x: &[Fraction], y: &[Fraction]) -> Vec<Fraction> {
 
 fn is_in_region(place: &[Fraction], region: &[Halfspace]) -> bool {
     region.iter().all(|halfspace| linear(&halfspace.normal, place) <= Fraction::from(halfspace.bound))
-}
-
-/// The step's polynomial without rounding.
-fn image(step: &Step, x: &[Fraction]) -> Vec<Fraction> {
-    let products: Vec<Vec<Fraction>> = x.iter().map(|a| x.iter().map(|b| a * b).collect()).collect();
-    (0..step.constant.len())
-        .map(|i| {
-            let quadratic = sum(step.forms[i].iter().zip(&products).map(|(row, products)| linear(row, products)));
-            let linear = linear(&step.matrix[i], x).over_power(12);
-            &(&Fraction::from(step.constant[i]) + &linear) + &quadratic.over_power(24)
-        })
-        .collect()
 }
 
 /// Centre and terms, the k-th factor at the value of the k-th of `identifiers`.

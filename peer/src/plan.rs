@@ -11,6 +11,10 @@
 //!   c 0 0
 //!   A 4096 0 / 0 4096              M rows of N entries
 //!   Q 2 : 0 1 / 1 0                the quadratic form of coordinate 2, N rows
+//! ranged M from N                  a step whose entries are known within half-widths
+//!   A 4096 0 / 0 4096              c, A and Q as a step's
+//!   A+- 205 0 / 0 205              the half-width of each entry of A; zeros if left out, as for each Q
+//!   Q+- 2 : 0 1 / 1 0
 //! disturbance N
 //!   radii 1 1
 //! check N                          1 to 8 halfspaces a·x ≤ b that bound the unsafe region
@@ -31,14 +35,15 @@ use crate::field::Field;
 use crate::finish::Limits;
 use crate::number::{count, Kind, BOUND, BYTE, IDENTIFIER, WORD};
 use crate::set::{Set, Term, MAX_DIMENSION, MAX_FACTORS, MAX_GENERATORS, MAX_TERMS};
-use crate::step::Step;
+use crate::step::{HalfWidths, Ranged, Step};
 
 /// Repeats that give more bytes than the longest run has, or nest deeper, are taken for a slip.
 const MAX_BYTES: usize = 1 << 24;
 const MAX_DEPTH: usize = 16;
 const DIMENSION: Kind = count(1, MAX_DIMENSION as i128);
-const FIELDS: [&str; 8] = ["start", "step", "disturbance", "independent", "tied", "reduce", "check", "hull"];
-const PARTS: [&str; 9] = ["identifiers", "centre", "term", "generator", "radii", "c", "A", "Q", "halfspace"];
+const FIELDS: [&str; 9] = ["start", "step", "disturbance", "independent", "tied", "reduce", "check", "hull", "ranged"];
+const PARTS: [&str; 11] =
+    ["identifiers", "centre", "term", "generator", "radii", "c", "A", "Q", "A+-", "Q+-", "halfspace"];
 
 #[derive(Debug, PartialEq, Eq)]
 pub struct PlanError {
@@ -191,7 +196,11 @@ fn field(head: &Line, parts: &[Line]) -> Result<Field, PlanError> {
         "independent" => set(head, parts, dimension()?).map(Field::Independent),
         "tied" => set(head, parts, dimension()?).map(Field::Tied),
         "hull" => set(head, parts, dimension()?).map(Field::Hull),
-        "step" => step(head, parts).map(Field::Step),
+        "step" => {
+            allow(head, parts, &["c", "A", "Q"])?;
+            step(head, parts).map(Field::Step)
+        }
+        "ranged" => ranged(head, parts).map(Field::Ranged),
         "disturbance" => {
             allow(head, parts, &["radii"])?;
             vector(parts, "radii", dimension()?).map(Field::Disturbance)
@@ -267,28 +276,42 @@ fn set(head: &Line, parts: &[Line], n: usize) -> Result<Set, PlanError> {
 }
 
 fn step(head: &Line, parts: &[Line]) -> Result<Step, PlanError> {
-    allow(head, parts, &["c", "A", "Q"])?;
     let (m, n) = match head.words.as_slice() {
         [m, from, n] if from == "from" => {
             let counts = head.numbers(&[m.clone(), n.clone()], DIMENSION)?;
             (counts[0] as usize, counts[1] as usize)
         }
-        _ => return head.error("a step is written 'step M from N'"),
+        _ => return head.error(format!("this step is written '{} M from N'", head.label)),
     };
-    let matrix = match single(parts, "A")? {
-        Some(part) => part.rows(&part.words, m, n)?,
-        None => vec![vec![0; n]; m],
-    };
+    Ok(Step { constant: vector(parts, "c", m)?, matrix: matrix(parts, "A", m, n)?, forms: forms(parts, "Q", m, n)? })
+}
+
+fn ranged(head: &Line, parts: &[Line]) -> Result<Ranged, PlanError> {
+    allow(head, parts, &["c", "A", "Q", "A+-", "Q+-"])?;
+    let step = step(head, parts)?;
+    let (m, n) = (step.constant.len(), step.from_dimension());
+    let half_widths = HalfWidths { matrix: matrix(parts, "A+-", m, n)?, forms: forms(parts, "Q+-", m, n)? };
+    Ok(Ranged { step, half_widths })
+}
+
+fn matrix(parts: &[Line], label: &str, rows: usize, columns: usize) -> Result<Vec<Vec<i128>>, PlanError> {
+    match single(parts, label)? {
+        Some(part) => part.rows(&part.words, rows, columns),
+        None => Ok(vec![vec![0; columns]; rows]),
+    }
+}
+
+/// For each of m coordinates the form that is given for it, or zeros.
+fn forms(parts: &[Line], label: &str, m: usize, n: usize) -> Result<Vec<Vec<Vec<i128>>>, PlanError> {
     let mut forms: Vec<Option<Vec<Vec<i128>>>> = vec![None; m];
-    for part in parts.iter().filter(|part| part.label == "Q") {
+    for part in parts.iter().filter(|part| part.label == label) {
         let (coordinate, rows) = part.halves()?;
         let i = part.exactly(coordinate, 1, count(1, m as i128))?[0] as usize - 1;
         if forms[i].replace(part.rows(rows, n, n)?).is_some() {
-            return part.error(format!("a second form of coordinate {}", i + 1));
+            return part.error(format!("a second '{label}' of coordinate {}", i + 1));
         }
     }
-    let forms = forms.into_iter().map(|form| form.unwrap_or(vec![vec![0; n]; n])).collect();
-    Ok(Step { constant: vector(parts, "c", m)?, matrix, forms })
+    Ok(forms.into_iter().map(|form| form.unwrap_or(vec![vec![0; n]; n])).collect())
 }
 
 fn check(head: &Line, parts: &[Line], n: usize) -> Result<Vec<Halfspace>, PlanError> {

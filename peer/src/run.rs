@@ -160,6 +160,7 @@ pub fn apply(field: &Field, state: &State) -> Result<(Finished, i128), Cause> {
     let mut mark = state.mark;
     let finished = match field {
         Field::Step(step) => step.apply(set),
+        Field::Ranged(ranged) => ranged.apply(set),
         Field::Disturbance(radii) => Finished::as_it_is(Set { radii: add(&set.radii, radii), ..set.clone() }),
         Field::Independent(body) => {
             mark += body.identifiers.len() as i128;
@@ -184,6 +185,7 @@ fn look_at_body(field: &Field) -> Result<(), Cause> {
     let in_range = match field {
         Field::Start(body) | Field::Independent(body) | Field::Tied(body) | Field::Hull(body) => body.is_in_range(),
         Field::Step(step) => step.is_in_range(),
+        Field::Ranged(ranged) => ranged.is_in_range(),
         Field::Disturbance(radii) => radii.iter().all(|r| (0..=MAX_DISTURBANCE).contains(r)),
         Field::Check(region) => region.iter().all(|halfspace| halfspace.is_in_range()),
         Field::Reduce(_) => true,

@@ -4,6 +4,7 @@
 use std::fmt::Write;
 
 use crate::field::{count_bytes, counts_fit, decode, expected_length, is_known_tag, Field, HEADER};
+use crate::step::{Ranged, Step};
 use crate::text::{joined, labelled, set_lines};
 
 const RAW_BYTES_A_LINE: usize = 24;
@@ -49,14 +50,12 @@ fn block(field: &Field) -> (String, Vec<String>) {
         Field::Independent(set) => (format!("independent {}", set.dimension()), set_lines(set)),
         Field::Tied(set) => (format!("tied {}", set.dimension()), set_lines(set)),
         Field::Hull(set) => (format!("hull {}", set.dimension()), set_lines(set)),
-        Field::Step(step) => {
-            let mut parts = vec![labelled("c", &step.constant), format!("A {}", rows(&step.matrix))];
-            for (i, form) in step.forms.iter().enumerate() {
-                if form.iter().flatten().any(|v| *v != 0) {
-                    parts.push(format!("Q {} : {}", i + 1, rows(form)));
-                }
-            }
-            (format!("step {} from {}", step.constant.len(), step.from_dimension()), parts)
+        Field::Step(step) => step_block("step", step),
+        Field::Ranged(Ranged { step, half_widths }) => {
+            let (head, mut parts) = step_block("ranged", step);
+            parts.push(format!("A+- {}", rows(&half_widths.matrix)));
+            parts.extend(form_lines("Q+-", &half_widths.forms));
+            (head, parts)
         }
         Field::Disturbance(radii) => (format!("disturbance {}", radii.len()), vec![labelled("radii", radii)]),
         Field::Reduce(limits) => (format!("reduce {} {}", limits.terms, limits.generators), Vec::new()),
@@ -67,6 +66,18 @@ fn block(field: &Field) -> (String, Vec<String>) {
             (format!("check {dimension}"), region.iter().map(halfspace).collect())
         }
     }
+}
+
+fn step_block(kind: &str, step: &Step) -> (String, Vec<String>) {
+    let mut parts = vec![labelled("c", &step.constant), format!("A {}", rows(&step.matrix))];
+    parts.extend(form_lines("Q", &step.forms));
+    (format!("{kind} {} from {}", step.constant.len(), step.from_dimension()), parts)
+}
+
+/// A line for each form that isn't all zeros.
+fn form_lines(label: &str, forms: &[Vec<Vec<i128>>]) -> Vec<String> {
+    let line = |(i, form): (usize, &Vec<Vec<i128>>)| format!("{label} {} : {}", i + 1, rows(form));
+    forms.iter().enumerate().filter(|(_, form)| form.iter().flatten().any(|v| *v != 0)).map(line).collect()
 }
 
 fn rows(rows: &[Vec<i128>]) -> String {

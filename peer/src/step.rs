@@ -1,4 +1,4 @@
-//! The polynomial step x' = c + Ax + Q(x,x), entries of A and Q in 1/4096.
+//! The polynomial step x' = c + Ax + Q(x,x), entries of A and Q in 1/4096, each known exactly or within a half-width.
 
 use crate::finish::{finish, Finished, FULL};
 use crate::set::{Set, Term};
@@ -18,6 +18,31 @@ pub struct Step {
     pub forms: Vec<Vec<Vec<i128>>>,
 }
 
+/// How far each entry of A and Q may be off, either way.
+#[derive(Clone, Debug, PartialEq, Eq)]
+pub struct HalfWidths {
+    pub matrix: Vec<Vec<i128>>,
+    pub forms: Vec<Vec<Vec<i128>>>,
+}
+
+/// A step whose entries are known within half-widths (document 02, A.2).
+#[derive(Clone, Debug, PartialEq, Eq)]
+pub struct Ranged {
+    pub step: Step,
+    pub half_widths: HalfWidths,
+}
+
+impl Ranged {
+    pub fn is_in_range(&self) -> bool {
+        self.step.is_in_range_within(&self.half_widths)
+    }
+
+    /// The finished image of a set under every step within the half-widths.
+    pub fn apply(&self, set: &Set) -> Finished {
+        self.step.apply_within(&self.half_widths, set)
+    }
+}
+
 impl Step {
     /// The dimension that the step takes.
     pub fn from_dimension(&self) -> usize {
@@ -25,14 +50,28 @@ impl Step {
     }
 
     pub fn is_in_range(&self) -> bool {
-        let entry = |v: &i128| v.abs() <= ENTRY_LIMIT;
-        self.constant.iter().all(|v| v.abs() <= CONSTANT_LIMIT)
-            && self.matrix.iter().flatten().all(entry)
-            && self.forms.iter().flatten().flatten().all(entry)
+        self.is_in_range_within(&self.exactly())
     }
 
     /// The finished image of a set.
     pub fn apply(&self, set: &Set) -> Finished {
+        self.apply_within(&self.exactly(), set)
+    }
+
+    /// The half-widths of entries that are known exactly.
+    pub fn exactly(&self) -> HalfWidths {
+        let (m, n) = (self.constant.len(), self.from_dimension());
+        HalfWidths { matrix: vec![vec![0; n]; m], forms: vec![vec![vec![0; n]; n]; m] }
+    }
+
+    fn is_in_range_within(&self, half_widths: &HalfWidths) -> bool {
+        let entry = |(v, width): (&i128, &i128)| *width >= 0 && v.abs() + width <= ENTRY_LIMIT;
+        let mut matrix = self.matrix.iter().flatten().zip(half_widths.matrix.iter().flatten());
+        let mut forms = self.forms.iter().flatten().flatten().zip(half_widths.forms.iter().flatten().flatten());
+        self.constant.iter().all(|v| v.abs() <= CONSTANT_LIMIT) && matrix.all(entry) && forms.all(entry)
+    }
+
+    fn apply_within(&self, half_widths: &HalfWidths, set: &Set) -> Finished {
         let mut image = Set {
             identifiers: set.identifiers.clone(),
             centre: Vec::new(),
@@ -41,13 +80,13 @@ impl Step {
             radii: Vec::new(),
         };
         for i in 0..self.constant.len() {
-            self.push_coordinate(i, set, &mut image);
+            self.push_coordinate(i, half_widths, set, &mut image);
         }
         finish(image, FULL)
     }
 
     /// Coordinate `i` of every part of the image, each number rounded by itself.
-    fn push_coordinate(&self, i: usize, set: &Set, image: &mut Set) {
+    fn push_coordinate(&self, i: usize, half_widths: &HalfWidths, set: &Set, image: &mut Set) {
         let (row, form) = (&self.matrix[i], &self.forms[i]);
         let k = &set.centre;
         let mut inexact = 0;
@@ -77,7 +116,8 @@ impl Step {
         for (generator, image) in set.generators.iter().zip(&mut image.generators) {
             image.push(rounded(linear(generator)));
         }
-        image.radii.push(ceiling(rest(row, form, set), ROUND) + ceiling(inexact, 2));
+        let rest = rest(row, form, set) + gain(&half_widths.matrix[i], &half_widths.forms[i], set);
+        image.radii.push(ceiling(rest, ROUND) + ceiling(inexact, 2));
     }
 }
 
@@ -104,7 +144,7 @@ fn image_terms(set: &Set) -> Vec<Term> {
     terms
 }
 
-/// What the radii and the products with generators can add, in 1/16,777,216 (document 01: S).
+/// What the radii and the products with generators can add, in 1/16,777,216 (document 01: S, for exact entries).
 fn rest(row: &[i128], form: &[Vec<i128>], set: &Set) -> i128 {
     let n = set.dimension();
     let k = &set.centre;
@@ -120,6 +160,12 @@ fn rest(row: &[i128], form: &[Vec<i128>], set: &Set) -> i128 {
         }
     }
     sum
+}
+
+/// What entries that are off by these half-widths can add, in 1/16,777,216 (document 02: what S gains).
+fn gain(row: &[i128], form: &[Vec<i128>], set: &Set) -> i128 {
+    let spans: Vec<i128> = (0..set.dimension()).map(|j| set.span(j)).collect();
+    UNIT * dot(row, &spans) + quadratic(form, &spans, &spans)
 }
 
 pub fn dot(a: &[i128], x: &[i128]) -> i128 {

@@ -8,7 +8,7 @@ use crate::finish::Limits;
 use crate::random::Random;
 use crate::run::MAX_FIELDS;
 use crate::set::{Set, Term, MAX_DIMENSION, MAX_FACTORS, MAX_GENERATORS, MAX_TERMS};
-use crate::step::{Step, ROUND, UNIT};
+use crate::step::{HalfWidths, Ranged, Step, ROUND, UNIT};
 
 pub struct Workload {
     pub name: &'static str,
@@ -16,7 +16,7 @@ pub struct Workload {
     make: fn() -> Vec<Field>,
 }
 
-pub static WORKLOADS: [Workload; 13] = [
+pub static WORKLOADS: [Workload; 14] = [
     workload(
         "oscillator",
         "a damped spring that stiffens, 2 coordinates, up to 12 terms; pushed and checked now and then",
@@ -39,6 +39,7 @@ pub static WORKLOADS: [Workload; 13] = [
         sums,
     ),
     workload("hulls", "4 coordinates: half of the fields are hulls with 40 terms; of up to 161 terms 40 stay", hulls),
+    workload("ranges", "the dense steps, on smaller numbers, with every entry known within a half-width", ranges),
     workload("terms-2", "steps on 2 terms in 4 coordinates whose products all fold", || steps_on(2, 4)),
     workload("terms-5", "the same on 5 terms", || steps_on(5, 4)),
     workload("terms-10", "the same on 10 terms", || steps_on(10, 4)),
@@ -112,17 +113,28 @@ impl Largest {
 }
 
 fn dense() -> Vec<Field> {
-    turned(|random| forms(random, MAX_DIMENSION, 2))
+    turned(800, 300, |random| forms(random, MAX_DIMENSION, 2))
 }
 
 fn linear() -> Vec<Field> {
-    turned(|_| vec![vec![vec![0; MAX_DIMENSION]; MAX_DIMENSION]; MAX_DIMENSION])
+    turned(800, 300, |_| vec![vec![vec![0; MAX_DIMENSION]; MAX_DIMENSION]; MAX_DIMENSION])
+}
+
+/// Sets as large as in the dense run would become too wide, even with half-widths of 1.
+fn ranges() -> Vec<Field> {
+    let n = MAX_DIMENSION;
+    let half_widths = HalfWidths { matrix: vec![vec![1; n]; n], forms: vec![vec![vec![1; n]; n]; n] };
+    let ranged = |field| match field {
+        Field::Step(step) => Field::Ranged(Ranged { step, half_widths: half_widths.clone() }),
+        other => other,
+    };
+    turned(400, 150, |random| forms(random, MAX_DIMENSION, 2)).into_iter().map(ranged).collect()
 }
 
 /// Steps that turn and shrink the largest sets; after seven of them a set is added.
-fn turned(forms: fn(&mut Random) -> Vec<Vec<Vec<i128>>>) -> Vec<Field> {
+fn turned(limit: i128, small: i128, forms: fn(&mut Random) -> Vec<Vec<Vec<i128>>>) -> Vec<Field> {
     let n = MAX_DIMENSION;
-    let mut sets = Largest::new(1, 800, 300);
+    let mut sets = Largest::new(1, limit, small);
     let start = sets.next();
     run(start, |place| match place % 8 {
         7 => Field::Tied(sets.next()),

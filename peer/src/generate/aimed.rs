@@ -1,7 +1,7 @@
 //! Run files aimed at one refusal, and at the order of refusals.
 
 use super::faults::{body_of, break_count, break_length, break_rule, break_tag, out_of_range, widen};
-use super::plain::{plain_set, unchanged, zero_step};
+use super::plain::{plain_set, unchanged, zero_ranged, zero_step};
 use super::valid::{next_field, prefix, Builder, MIXED};
 use crate::field::Field;
 use crate::finish::Limits;
@@ -155,8 +155,9 @@ fn too_many_factors(random: &mut Random) -> (Field, Field) {
     (Field::Start(plain_set(1, first, 1, 0)), field)
 }
 
-/// The current set reaches 1 and is moved or widened by the whole span, or a fold or a hull's rounding adds to the
-/// whole span; or a disturbance after a valid run takes one more than the room that is left.
+/// The current set reaches 1 and is moved or widened by the whole span, where a half-width may add the last unit, or a
+/// fold or a hull's rounding adds to the whole span; or a disturbance after a valid run takes one more than the room
+/// that is left.
 fn too_wide_result(random: &mut Random) -> Vec<u8> {
     let fields = random.below(9);
     let Builder { bytes, state } = prefix(random, &MIXED, fields);
@@ -169,7 +170,7 @@ fn too_wide_result(random: &mut Random) -> Vec<u8> {
     let mut start = plain_set(1, 1, 1, 0);
     let mut wide = plain_set(1, 0, 0, 0);
     wide.radii[0] = SPAN_LIMIT;
-    let field = match random.below(7) {
+    let field = match random.below(8) {
         0 => {
             let mut step = zero_step(1, 1);
             step.constant[0] = *random.pick(&[CONSTANT_LIMIT, -CONSTANT_LIMIT]);
@@ -181,6 +182,15 @@ fn too_wide_result(random: &mut Random) -> Vec<u8> {
         3 => Field::Tied(wide),
         4 => Field::Hull(wide),
         5 => {
+            let mut ranged = zero_ranged(1, 1);
+            ranged.step.constant[0] = *random.pick(&[CONSTANT_LIMIT, -CONSTANT_LIMIT]);
+            match random.below(2) {
+                0 => ranged.half_widths.matrix[0][0] = *random.pick(&[1, UNIT, ENTRY_LIMIT]),
+                _ => ranged.half_widths.forms[0][0][0] = *random.pick(&[1, UNIT, ENTRY_LIMIT]),
+            }
+            Field::Ranged(ranged)
+        }
+        6 => {
             start.terms[0].coefficients[0] = SPAN_LIMIT - 1;
             start.centre[0] = random.between(-1, 1);
             Field::Hull(start.clone())

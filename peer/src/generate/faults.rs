@@ -5,7 +5,7 @@ use crate::field::{Field, HEADER};
 use crate::random::Random;
 use crate::run::MAX_DISTURBANCE;
 use crate::set::{Set, MAX_DIMENSION, MAX_FACTORS, MAX_FILE_IDENTIFIER, MAX_GENERATORS, MAX_TERMS, SPAN_LIMIT};
-use crate::step::{CONSTANT_LIMIT, ENTRY_LIMIT};
+use crate::step::{HalfWidths, Ranged, Step, CONSTANT_LIMIT, ENTRY_LIMIT};
 
 pub fn body_of(field: &mut Field) -> Option<&mut Set> {
     match field {
@@ -16,9 +16,6 @@ pub fn body_of(field: &mut Field) -> Option<&mut Set> {
 
 /// Puts one number out of its range, if the field has one that has a range.
 pub fn out_of_range(random: &mut Random, field: &mut Field) -> bool {
-    let beyond = |random: &mut Random, limit: i128| {
-        *random.pick(&[limit + 1, -limit - 1, i128::from(i32::MAX), i128::from(i32::MIN)])
-    };
     match field {
         Field::Start(body) | Field::Independent(body) | Field::Tied(body) | Field::Hull(body) => {
             match random.below(3) {
@@ -36,18 +33,9 @@ pub fn out_of_range(random: &mut Random, field: &mut Field) -> bool {
                 }
             }
         }
-        Field::Step(step) => {
-            let (i, j, l) = (
-                random.below(step.constant.len()),
-                random.below(step.from_dimension()),
-                random.below(step.from_dimension()),
-            );
-            match random.below(3) {
-                0 => step.constant[i] = beyond(random, CONSTANT_LIMIT),
-                1 => step.matrix[i][j] = beyond(random, ENTRY_LIMIT),
-                _ => step.forms[i][j][l] = beyond(random, ENTRY_LIMIT),
-            }
-        }
+        Field::Step(step) => step_out_of_range(random, step),
+        Field::Ranged(Ranged { step, .. }) if random.once_in(2) => step_out_of_range(random, step),
+        Field::Ranged(Ranged { step, half_widths }) => half_width_out_of_range(random, step, half_widths),
         Field::Disturbance(radii) => {
             let i = random.below(radii.len());
             radii[i] = *random.pick(&[-1, MAX_DISTURBANCE + 1, i128::from(i32::MAX), i128::from(i32::MIN)]);
@@ -64,6 +52,37 @@ pub fn out_of_range(random: &mut Random, field: &mut Field) -> bool {
         Field::Reduce(_) => return false,
     }
     true
+}
+
+fn step_out_of_range(random: &mut Random, step: &mut Step) {
+    let (i, j, l) = place(random, step);
+    match random.below(3) {
+        0 => step.constant[i] = beyond(random, CONSTANT_LIMIT),
+        1 => step.matrix[i][j] = beyond(random, ENTRY_LIMIT),
+        _ => step.forms[i][j][l] = beyond(random, ENTRY_LIMIT),
+    }
+}
+
+/// A half-width below 0, or one that leads beyond the limit of an entry, by 1 or by far.
+pub fn half_width_out_of_range(random: &mut Random, step: &Step, half_widths: &mut HalfWidths) {
+    let (i, j, l) = place(random, step);
+    let (entry, half_width) = if random.once_in(2) {
+        (step.matrix[i][j], &mut half_widths.matrix[i][j])
+    } else {
+        (step.forms[i][j][l], &mut half_widths.forms[i][j][l])
+    };
+    let room = ENTRY_LIMIT - entry.abs();
+    *half_width = *random.pick(&[-1, room + 1, i128::from(i32::MAX), i128::from(i32::MIN)]);
+}
+
+/// A place in A, by row and column, and in the forms of Q.
+pub fn place(random: &mut Random, step: &Step) -> (usize, usize, usize) {
+    let n = step.from_dimension();
+    (random.below(step.constant.len()), random.below(n), random.below(n))
+}
+
+fn beyond(random: &mut Random, limit: i128) -> i128 {
+    *random.pick(&[limit + 1, -limit - 1, i128::from(i32::MAX), i128::from(i32::MIN)])
 }
 
 /// Breaks one of the ordering and zero rules, if there is room for the one picked.
@@ -105,8 +124,11 @@ pub fn widen(random: &mut Random, body: &mut Set) {
 }
 
 pub fn break_tag(random: &mut Random, bytes: &mut [u8], first: bool) {
-    bytes[0] =
-        if first { *random.pick(&[0, 2, 3, 4, 5, 6, 7, 8, 9, 255]) } else { *random.pick(&[0, 1, 9, 10, 128, 255]) };
+    bytes[0] = if first {
+        *random.pick(&[0, 2, 3, 4, 5, 6, 7, 8, 9, 10, 255])
+    } else {
+        *random.pick(&[0, 1, 10, 11, 128, 255])
+    };
 }
 
 /// Makes the body longer or shorter, and the length that the field states with it.
@@ -118,8 +140,13 @@ pub fn break_length(random: &mut Random, bytes: &mut Vec<u8>) {
         2 => 0,
         _ => random.below(length.max(1)),
     };
-    bytes.resize(HEADER + other, 0);
-    bytes[1..HEADER].copy_from_slice(&(other as u16).to_le_bytes());
+    resize_body(bytes, other);
+}
+
+/// Cuts the body or adds zeros to it, and states the length.
+pub fn resize_body(bytes: &mut Vec<u8>, length: usize) {
+    bytes.resize(HEADER + length, 0);
+    bytes[1..HEADER].copy_from_slice(&(length as u16).to_le_bytes());
 }
 
 /// Puts one of the count bytes out of its limits.
@@ -132,7 +159,7 @@ pub fn break_count(random: &mut Random, bytes: &mut [u8]) {
             (2, MAX_TERMS, true),
             (3, MAX_GENERATORS, true),
         ]),
-        2 => *random.pick(&[(0, MAX_DIMENSION, false), (1, MAX_DIMENSION, false)]),
+        2 | 9 => *random.pick(&[(0, MAX_DIMENSION, false), (1, MAX_DIMENSION, false)]),
         3 => (0, MAX_DIMENSION, false),
         6 => *random.pick(&[(0, MAX_TERMS, true), (1, MAX_GENERATORS, true)]),
         _ => *random.pick(&[(0, MAX_DIMENSION, false), (1, MAX_HALFSPACES, false)]),

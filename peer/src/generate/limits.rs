@@ -2,7 +2,7 @@
 //! seeds have them all.
 
 use super::parts::region;
-use super::plain::{plain_set, unchanged, zero_step};
+use super::plain::{plain_set, unchanged, zero_ranged, zero_step};
 use crate::bounds::{Halfspace, BOUND_LIMIT, MAX_HALFSPACES};
 use crate::field::Field;
 use crate::finish::Limits;
@@ -14,8 +14,8 @@ use crate::set::{
 use crate::step::{CONSTANT_LIMIT, ENTRY_LIMIT, UNIT};
 
 /// How many numbers have a limit here, and how many counts.
-const NUMBERS: u64 = 20;
-const COUNTS: u64 = 19;
+const NUMBERS: u64 = 25;
+const COUNTS: u64 = 22;
 
 /// Numbers within 1 of a limit, first of one sign, then of the other.
 pub fn number(random: &mut Random, seed: u64) -> Vec<u8> {
@@ -25,6 +25,7 @@ pub fn number(random: &mut Random, seed: u64) -> Vec<u8> {
     let empty = Field::Start(plain_set(2, 0, 0, 0));
     let mut body = plain_set(2, 1, 1, 1);
     let mut step = zero_step(2, 2);
+    let mut ranged = zero_ranged(2, 2);
     let fields = match seed / 3 % NUMBERS {
         0 => {
             let (p, h) = (1 + random.below(MAX_FACTORS - 1), 1 + random.below(MAX_TERMS));
@@ -96,12 +97,49 @@ pub fn number(random: &mut Random, seed: u64) -> Vec<u8> {
             part.fill(SPAN_LIMIT + by - 4 - 2);
             vec![Field::Start(body.clone()), Field::Hull(body)]
         }
-        _ => {
+        19 => {
+            ranged.half_widths.matrix[random.below(2)][random.below(2)] = by;
+            vec![start, Field::Ranged(ranged)]
+        }
+        20 => {
+            ranged.half_widths.forms[random.below(2)][random.below(2)][random.below(2)] = by;
+            vec![start, Field::Ranged(ranged)]
+        }
+        21 => {
+            let (i, j, size) = (random.below(2), random.below(2), random.between(0, ENTRY_LIMIT - 1));
+            ranged.step.matrix[i][j] = sign * size;
+            ranged.half_widths.matrix[i][j] = ENTRY_LIMIT + by - size;
+            vec![start, Field::Ranged(ranged)]
+        }
+        22 => {
+            let (i, j, l, size) =
+                (random.below(2), random.below(2), random.below(2), random.between(0, ENTRY_LIMIT - 1));
+            ranged.step.forms[i][j][l] = sign * size;
+            ranged.half_widths.forms[i][j][l] = ENTRY_LIMIT + by - size;
+            vec![start, Field::Ranged(ranged)]
+        }
+        23 => {
             let mut current = plain_set(2, 1, 2, 1);
             widen_to(random, &mut current, 1_000);
             (0..2).for_each(|i| step.matrix[i][i] = UNIT);
             step.constant = current.centre.iter().map(|k| sign_of(*k) * (SPAN_LIMIT + by - 1_000)).collect();
             vec![Field::Start(current), Field::Step(step)]
+        }
+        _ => {
+            // In a set with spans of 1.0 a half-width adds itself to the radius.
+            let mut current = plain_set(2, 1, 2, 1);
+            widen_to(random, &mut current, UNIT);
+            for i in 0..2 {
+                let width = random.between(1, ENTRY_LIMIT - UNIT);
+                ranged.step.matrix[i][i] = UNIT;
+                ranged.step.constant[i] = sign_of(current.centre[i]) * (SPAN_LIMIT + by - UNIT - width);
+                if random.once_in(2) {
+                    ranged.half_widths.matrix[i][random.below(2)] = width;
+                } else {
+                    ranged.half_widths.forms[i][random.below(2)][random.below(2)] = width;
+                }
+            }
+            vec![Field::Start(current), Field::Ranged(ranged)]
         }
     };
     fields.iter().flat_map(Field::encode).collect()
@@ -138,11 +176,14 @@ pub fn count(random: &mut Random, seed: u64) -> Vec<u8> {
             let (first, shared) = (1 + random.below(11), random.below(2));
             vec![set(1, first, 1, 0), Field::Tied(sharing(first, shared, near(MAX_FACTORS)))]
         }
-        _ => {
+        18 => {
             // The factor that blends is one more.
             let (first, shared) = (1 + random.below(9), random.below(2));
             vec![set(1, first, 1, 0), Field::Hull(sharing(first, shared, near(MAX_FACTORS) - 1))]
         }
+        19 => vec![start, Field::Ranged(zero_ranged(near(MAX_DIMENSION), 2))],
+        20 => vec![start, Field::Ranged(zero_ranged(near(1), 2))],
+        _ => vec![set(MAX_DIMENSION, 0, 0, 0), Field::Ranged(zero_ranged(2, near(MAX_DIMENSION)))],
     };
     fields.iter().flat_map(Field::encode).collect()
 }

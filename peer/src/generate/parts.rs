@@ -5,7 +5,7 @@ use std::collections::BTreeSet;
 use crate::bounds::{lower_end, Halfspace, BOUND_LIMIT, MAX_HALFSPACES};
 use crate::random::Random;
 use crate::set::{Set, Term, MAX_FILE_IDENTIFIER, SPAN_LIMIT};
-use crate::step::{Step, ENTRY_LIMIT, ROUND, UNIT};
+use crate::step::{HalfWidths, Ranged, Step, ENTRY_LIMIT, ROUND, UNIT};
 
 /// What a set body is to be like; the counts are at most.
 #[derive(Clone, Copy)]
@@ -103,8 +103,30 @@ fn nonzero(random: &mut Random, n: usize, limit: i128) -> Vec<i128> {
 
 /// A step to m coordinates whose result has a span of about `span` at most.
 pub fn step(random: &mut Random, set: &Set, m: usize, span: i128) -> Step {
-    let n = set.dimension();
-    let spans: Vec<i128> = (0..n).map(|j| set.span(j)).collect();
+    let (mut matrix, mut forms) = entries(random, m, set.dimension());
+    let constant: Vec<i128> = (0..m).map(|_| random.between(-span / 8, span / 8)).collect();
+    for i in 0..m {
+        shrink(&mut matrix[i], &mut forms[i], set, span - constant[i].abs());
+    }
+    Step { constant, matrix, forms }
+}
+
+/// The same with entries that are known within half-widths, large or small ones.
+pub fn ranged(random: &mut Random, set: &Set, m: usize, span: i128) -> Ranged {
+    let step = step(random, set, m, span / 2);
+    let (mut matrix, mut forms) = entries(random, m, set.dimension());
+    let fit = |(width, entry): (&mut i128, &i128)| *width = width.abs().min(ENTRY_LIMIT - entry.abs());
+    matrix.iter_mut().flatten().zip(step.matrix.iter().flatten()).for_each(fit);
+    forms.iter_mut().flatten().flatten().zip(step.forms.iter().flatten().flatten()).for_each(fit);
+    let reach = *random.pick(&[span / 2, span / 64]);
+    for i in 0..m {
+        shrink(&mut matrix[i], &mut forms[i], set, reach);
+    }
+    Ranged { step, half_widths: HalfWidths { matrix, forms } }
+}
+
+/// A and Q, or only one of them; some entries are 0 and a few as large as can be.
+fn entries(random: &mut Random, m: usize, n: usize) -> (Vec<Vec<i128>>, Vec<Vec<Vec<i128>>>) {
     let (with_matrix, with_forms) = (!random.once_in(6), !random.once_in(4));
     let mut entry = |wanted: bool| {
         if !wanted || random.once_in(3) {
@@ -115,25 +137,23 @@ pub fn step(random: &mut Random, set: &Set, m: usize, span: i128) -> Step {
             random.between(-UNIT, UNIT)
         }
     };
-    let mut matrix: Vec<Vec<i128>> = (0..m).map(|_| (0..n).map(|_| entry(with_matrix)).collect()).collect();
-    let mut forms: Vec<Vec<Vec<i128>>> =
-        (0..m).map(|_| (0..n).map(|_| (0..n).map(|_| entry(with_forms)).collect()).collect()).collect();
-    let constant: Vec<i128> = (0..m).map(|_| random.between(-span / 8, span / 8)).collect();
-    for i in 0..m {
-        let linear: i128 = matrix[i].iter().zip(&spans).map(|(a, s)| UNIT * a.abs() * s).sum();
-        let products = forms[i]
-            .iter()
-            .zip(&spans)
-            .map(|(row, s)| s * row.iter().zip(&spans).map(|(q, t)| q.abs() * t).sum::<i128>());
-        let reach = linear + products.sum::<i128>();
-        let allowed = ROUND * (span - constant[i].abs()) * 7 / 8;
-        if reach > allowed {
-            let shrink = |v: &mut i128| *v = *v * allowed / reach;
-            matrix[i].iter_mut().for_each(shrink);
-            forms[i].iter_mut().flatten().for_each(shrink);
-        }
+    let matrix = (0..m).map(|_| (0..n).map(|_| entry(with_matrix)).collect()).collect();
+    let forms = (0..m).map(|_| (0..n).map(|_| (0..n).map(|_| entry(with_forms)).collect()).collect()).collect();
+    (matrix, forms)
+}
+
+/// Makes a row of A and a form smaller where they can take the set beyond seven eighths of `reach`.
+fn shrink(row: &mut [i128], form: &mut [Vec<i128>], set: &Set, reach: i128) {
+    let spans: Vec<i128> = (0..set.dimension()).map(|j| set.span(j)).collect();
+    let sizes = |row: &[i128]| row.iter().zip(&spans).map(|(a, s)| a.abs() * s).sum::<i128>();
+    let products: i128 = form.iter().zip(&spans).map(|(row, s)| s * sizes(row)).sum();
+    let largest = UNIT * sizes(row) + products;
+    let allowed = ROUND * reach * 7 / 8;
+    if largest > allowed {
+        let smaller = |v: &mut i128| *v = *v * allowed / largest;
+        row.iter_mut().for_each(smaller);
+        form.iter_mut().flatten().for_each(smaller);
     }
-    Step { constant, matrix, forms }
 }
 
 /// Halfspaces around the set, some with b at the lower end or one beside it.

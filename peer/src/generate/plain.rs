@@ -5,7 +5,7 @@ use crate::field::Field;
 use crate::finish::Limits;
 use crate::random::Random;
 use crate::set::{Set, Term, MAX_GENERATORS, MAX_TERMS};
-use crate::step::{Step, UNIT};
+use crate::step::{Ranged, Step, UNIT};
 
 /// A set of the given counts, in limits or not, with all numbers 1 and zero centre and radii.
 pub fn plain_set(n: usize, p: usize, h: usize, q: usize) -> Set {
@@ -20,6 +20,11 @@ pub fn plain_set(n: usize, p: usize, h: usize, q: usize) -> Set {
 
 pub fn zero_step(m: usize, n: usize) -> Step {
     Step { constant: vec![0; m], matrix: vec![vec![0; n]; m], forms: vec![vec![vec![0; n]; n]; m] }
+}
+
+pub fn zero_ranged(m: usize, n: usize) -> Ranged {
+    let step = zero_step(m, n);
+    Ranged { half_widths: step.exactly(), step }
 }
 
 /// A start set and so many fields after it that change nothing.

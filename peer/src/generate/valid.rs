@@ -1,6 +1,6 @@
 //! Valid runs: fields that the state reached so far accepts.
 
-use super::parts::{body, fill_span, region, step, Shape};
+use super::parts::{body, fill_span, ranged, region, step, Shape};
 use crate::field::Field;
 use crate::finish::Limits;
 use crate::random::Random;
@@ -17,6 +17,7 @@ pub struct Profile {
     reductions: usize,
     checks: usize,
     hulls: usize,
+    ranges: usize,
     dimension: usize,
     factors: usize,
     terms: usize,
@@ -36,6 +37,7 @@ pub const MIXED: Profile = Profile {
     reductions: 1,
     checks: 2,
     hulls: 2,
+    ranges: 2,
     dimension: 4,
     factors: 4,
     terms: 8,
@@ -50,6 +52,7 @@ pub const SHARP: Profile = Profile {
     fields: 8,
     disturbances: 0,
     reductions: 0,
+    ranges: 0,
     factors: 3,
     terms: 5,
     generators: 0,
@@ -66,6 +69,7 @@ pub const REDUCTIONS: Profile = Profile { reductions: 8, terms: 20, generators: 
 pub const DIMENSIONS: Profile = Profile { steps: 12, dimension: MAX_DIMENSION, ..MIXED };
 pub const SUMS: Profile = Profile { fields: 60, independent: 16, reductions: 3, dimension: 2, ..MIXED };
 pub const HULLS: Profile = Profile { fields: 12, hulls: 12, span: 4_000, ..MIXED };
+pub const RANGES: Profile = Profile { fields: 16, ranges: 12, ..MIXED };
 pub const WIDE: Profile = Profile { span: SPAN_LIMIT, ..MIXED };
 pub const LONG: Profile = Profile { fields: MAX_FIELDS, dimension: 3, factors: 2, terms: 3, generators: 2, ..MIXED };
 
@@ -133,6 +137,7 @@ pub fn next_field(random: &mut Random, profile: &Profile, state: &State) -> Opti
         profile.tied,
         profile.reductions,
         profile.hulls,
+        profile.ranges,
         profile.checks,
     ];
     let mut chosen = random.below(chances.iter().sum());
@@ -163,6 +168,10 @@ pub fn next_field(random: &mut Random, profile: &Profile, state: &State) -> Opti
         5 => {
             let factors = MAX_FACTORS.saturating_sub(set.identifiers.len() + 1);
             Field::Hull(shaped_body(random, profile, n, factors, SPAN_LIMIT))
+        }
+        6 => {
+            let m = 1 + random.below(profile.dimension);
+            Field::Ranged(ranged(random, set, m, profile.span))
         }
         _ => Field::Check(region(random, set)),
     })

@@ -34,8 +34,8 @@ fn difference(script: &str, first_seed: u64) -> (String, &'static Kind, u64) {
 
 #[test]
 fn the_second_implementation_agrees_with_itself() {
-    let (status, text) = compare("exec \"$0\" motion", &["--files", "40", "--seed", "500"]);
-    let whole = "compared: 40 files of 37 kinds, seeds up to 501, 4 of them also in pieces; ";
+    let (status, text) = compare("exec \"$0\" motion", &["--files", "44", "--seed", "500"]);
+    let whole = "compared: 44 files of 40 kinds, seeds up to 501, 5 of them also in pieces; ";
     assert!(status == 0 && text.starts_with(whole) && text.ends_with("no difference\n"), "{text}");
     assert!(text.contains("4 ways of not reading it") && text.lines().count() == 1, "{text}");
 }

@@ -3,8 +3,10 @@
 use std::path::{Path, PathBuf};
 
 use crate::common::run_file;
+use peer::field::Field;
 use peer::follow::follow;
 use peer::run::{Outcome, Run};
+use peer::step::Ranged;
 use peer::text::motion;
 
 fn folder() -> PathBuf {
@@ -28,7 +30,7 @@ fn names() -> Vec<String> {
 #[test]
 fn run_files_are_their_plans_and_print_what_is_expected() {
     let names = names();
-    assert_eq!(names.len(), 7, "{names:?}");
+    assert_eq!(names.len(), 8, "{names:?}");
     for name in names {
         let run = bytes(&format!("{name}.run"));
         assert!(run_file(&text(&format!("{name}.plan"))) == run, "{name}");
@@ -48,24 +50,23 @@ fn no_motion_escapes() {
     }
 }
 
-/// How many steps and disturbances, and the verdicts in order.
-fn tally(name: &str) -> (usize, usize, Vec<bool>) {
-    let run = bytes(name);
-    let accepted: Vec<_> = Run::new(&run).map(|item| item.expect("accepted")).collect();
+/// How many steps, plain or ranged, and disturbances, and the verdicts in order.
+fn tally(run: &[u8]) -> (usize, usize, Vec<bool>) {
+    let accepted: Vec<_> = Run::new(run).map(|item| item.expect("accepted")).collect();
     let count = |tag| accepted.iter().filter(|a| a.field.tag() == tag).count();
     let verdict = |outcome: &Outcome| match outcome {
         Outcome::Verdict { safe } => Some(*safe),
         Outcome::Box(_) => None,
     };
-    (count(2), count(3), accepted.iter().filter_map(|a| verdict(&a.outcome)).collect())
+    (count(2) + count(9), count(3), accepted.iter().filter_map(|a| verdict(&a.outcome)).collect())
 }
 
 #[test]
 fn absorber_is_safe_and_the_softer_one_is_not_shown_to_be() {
-    let (steps, disturbances, verdicts) = tally("absorber.run");
+    let (steps, disturbances, verdicts) = tally(&bytes("absorber.run"));
     assert_eq!((steps, disturbances), (512, 512));
     assert!(verdicts.len() == 96 && verdicts.iter().all(|safe| *safe));
-    let (steps, disturbances, verdicts) = tally("absorber-soft.run");
+    let (steps, disturbances, verdicts) = tally(&bytes("absorber-soft.run"));
     assert_eq!((steps, disturbances), (512, 512));
     assert!(verdicts.len() == 96 && !verdicts[0] && verdicts[1..].iter().all(|safe| *safe));
 }
@@ -77,7 +78,58 @@ fn latch_is_safe_whether_it_holds_or_not() {
     let accepted: Vec<_> = Run::new(&run).map(|item| item.expect("accepted")).collect();
     let tags: Vec<u8> = accepted.iter().map(|a| a.field.tag()).filter(|tag| [7, 8].contains(tag)).collect();
     assert_eq!(tags, [7, 8, 7, 7, 7].repeat(4));
-    let (steps, disturbances, verdicts) = tally("latch.run");
+    let (steps, disturbances, verdicts) = tally(&bytes("latch.run"));
     assert_eq!((steps, disturbances), (52, 52));
     assert_eq!(verdicts, [true, false, true, true].repeat(4));
+}
+
+/// Safe within 5 per cent; with half-widths twice as large the outer end stop can't be ruled out after the first
+/// transient.
+#[test]
+fn suspension_is_safe_within_its_range_and_not_shown_to_be_within_twice_that() {
+    let plan = text("suspension.plan");
+    let (steps, disturbances, verdicts) = tally(&run_file(&plan));
+    assert_eq!((steps, disturbances), (64, 64));
+    assert_eq!(verdicts, [true; 8]);
+    let twice = plan.replace("A+- 59 19 / 80 38", "A+- 118 38 / 160 76").replace(": 1 0 / 0 0", ": 2 0 / 0 0");
+    assert!(twice != plan);
+    assert_eq!(tally(&run_file(&twice)).2, [vec![false], vec![true; 7]].concat());
+}
+
+/// The linear part x'' = -share·x - 1.397·x' solved over one sample, the unit of time, by the exponential's series;
+/// the share is that of the nominal stiffness.
+fn solved(share: f64) -> [[f64; 2]; 2] {
+    let rate = [[0.0, 1.0], [-share, -1.397]];
+    let times = |a: [[f64; 2]; 2], b: [[f64; 2]; 2]| {
+        std::array::from_fn(|i| std::array::from_fn(|j| a[i][0] * b[0][j] + a[i][1] * b[1][j]))
+    };
+    let (mut power, mut sum) = ([[1.0, 0.0], [0.0, 1.0]], [[1.0, 0.0], [0.0, 1.0]]);
+    for k in 1..30 {
+        power = times(power, rate).map(|row: [f64; 2]| row.map(|v| v / f64::from(k)));
+        sum = std::array::from_fn(|i| std::array::from_fn(|j| sum[i][j] + power[i][j]));
+    }
+    sum
+}
+
+#[test]
+fn suspension_has_the_step_of_every_stiffness_within_5_per_cent() {
+    let run = bytes("suspension.run");
+    let ranged = Run::new(&run).find_map(|item| match item.expect("accepted").field {
+        Field::Ranged(ranged) => Some(ranged),
+        _ => None,
+    });
+    let Ranged { step, half_widths } = ranged.expect("a ranged step");
+    let within = |v: f64, entry: i128, width: i128| (4096.0 * v - entry as f64).abs() <= width as f64;
+    for percent in 95..=105 {
+        let solved = solved(f64::from(percent) / 100.0);
+        // The force -share·x²/200, held over the sample, moves travel and speed as a shift of the working point would.
+        let quadratic = [(solved[0][0] - 1.0) / 200.0, solved[1][0] / 200.0];
+        for i in 0..2 {
+            let entries = solved[i].iter().zip(&step.matrix[i]).zip(&half_widths.matrix[i]);
+            for ((v, entry), width) in entries {
+                assert!(within(*v, *entry, *width), "{percent} per cent, A: {v} and {entry}");
+            }
+            assert!(within(quadratic[i], step.forms[i][0][0], half_widths.forms[i][0][0]), "{percent} per cent, Q");
+        }
+    }
 }

@@ -173,6 +173,116 @@ fn a_hulls_factor_given_again_is_caught() {
     assert!(escapes.count() > 2);
 }
 
+/// Where one motion is after each field of the plan, in units of 1.0.
+fn places(plan: &str, manner: Manner, seed: u64) -> Vec<f64> {
+    let mut motion = Motion::new(manner, seed);
+    let place = |field: Accepted| {
+        motion.accept(&field);
+        motion.place[0].approximately() / 4096.0
+    };
+    accepted(plan).into_iter().map(place).collect()
+}
+
+/// From 1 to 1 1/2 or 1/2 with an entry of 1 ± 1/2; from -1 the higher end of the coefficient leads down.
+#[test]
+fn a_ranged_step_takes_a_motion_as_far_as_it_picks() {
+    let place = |centre: &str, manner| {
+        places(&format!("start 1\ncentre {centre}\nranged 1 from 1\nA 1.0\nA+- 0.5"), manner, 1)[1]
+    };
+    assert_eq!((place("1.0", Manner::High), place("1.0", Manner::Low)), (1.5, 0.5));
+    assert_eq!((place("-1.0", Manner::High), place("-1.0", Manner::Low)), (-0.5, -1.5));
+    let place = |manner| places("start 1\ncentre 2.0\nranged 1 from 1\nc 1.0\nQ 1 : -0.5\nQ+- 1 : 0.25", manner, 1)[1];
+    assert_eq!((place(Manner::High), place(Manner::Low)), (0.0, -2.0));
+}
+
+/// Coefficients at both ends and between them, and others in the second field than in the first.
+#[test]
+fn coefficients_are_picked_anew_in_each_field() {
+    let plan = "start 1\ncentre 1.0\nranged 1 from 1\nA 1.0\nA+- 0.5\nranged 1 from 1\nA 1.0\nA+- 0.5";
+    let picked = |manner| {
+        let coefficients = (0..40).map(|seed| places(plan, manner, seed));
+        coefficients.map(|places| (places[1] / places[0], places[2] / places[1])).collect::<Vec<_>>()
+    };
+    let ends = picked(Manner::Ends);
+    assert!(ends.iter().all(|(first, second)| [first, second].iter().all(|c| [0.5, 1.5].contains(*c))));
+    for pair in [(0.5, 0.5), (0.5, 1.5), (1.5, 0.5), (1.5, 1.5)] {
+        assert!(ends.contains(&pair), "{pair:?}");
+    }
+    let any = picked(Manner::Any);
+    assert!(any.iter().all(|(first, second)| [first, second].iter().all(|c| (0.5..=1.5).contains(*c))));
+    assert!(any.iter().any(|(c, _)| *c == 0.5) && any.iter().any(|(c, _)| *c == 1.5));
+    assert!(any.iter().filter(|(c, _)| 0.5 < *c && *c < 1.5).count() > 10);
+    assert!(any.iter().filter(|(first, second)| first != second).count() > 20);
+}
+
+/// The first escape from what a ranged step leaves if its radius has only so much, in units of 1.0.
+fn narrow_ranged(plan: &str, manner: Manner, radius: i128) -> Option<(usize, Escape)> {
+    assert_eq!(first_escape(&run_file(plan), manner, |_| ()), None);
+    first_escape(&run_file(plan), manner, |accepted| {
+        if let Field::Ranged(_) = accepted.field {
+            accepted.set.radii[0] = radius * 4096;
+        }
+    })
+}
+
+/// Each of centre, term, generator and radius reaches 1; the gain is 4, and 3 is what is left if one does not count.
+#[test]
+fn a_gain_without_a_part_of_the_span_is_caught() {
+    let start = "start 1\nidentifiers 1\ncentre 1.0\nterm 1 : 1.0\ngenerator 1.0\nradii 1.0\n";
+    let plan = format!("{start}ranged 1 from 1\nA+- 1.0");
+    assert_eq!(accepted(&plan)[1].set.radii, [4 * 4096]);
+    assert_eq!(narrow_ranged(&plan, Manner::High, 3), Some((1, Escape::Set)));
+    let turned = plan.replace("centre 1.0", "centre -1.0");
+    assert_eq!(narrow_ranged(&turned, Manner::Low, 3), Some((1, Escape::Set)));
+}
+
+/// Radii of 1 and 2 and half-widths of 1: all four products are 9.
+#[test]
+fn a_gain_without_one_of_the_products_is_caught() {
+    let plan = "start 2\nradii 1.0 2.0\nranged 1 from 2\nQ+- 1 : 1.0 1.0 / 1.0 1.0";
+    assert_eq!(accepted(plan)[1].set.radii, [9 * 4096]);
+    for without in [1, 2, 4] {
+        assert_eq!(narrow_ranged(plan, Manner::High, 9 - without), Some((1, Escape::Set)));
+    }
+}
+
+/// An unsafe region that only a motion with a coefficient at its end reaches.
+#[test]
+fn a_verdict_that_takes_the_entries_for_exact_is_caught() {
+    let plan = "start 1\ncentre 1.0\nranged 1 from 1\nA 1.0\nA+- 0.5\ncheck 1\nhalfspace 1.0 : 0.5";
+    assert_eq!(first_escape(&run_file(plan), Manner::Low, |_| ()), None);
+    let wrong = first_escape(&run_file(plan), Manner::Low, |accepted| {
+        if let Outcome::Verdict { safe } = &mut accepted.outcome {
+            *safe = true;
+        }
+    });
+    assert_eq!(wrong, Some((2, Escape::Safe)));
+}
+
+/// Taken for plain steps, the ranged steps of most generated files lose a motion.
+#[test]
+fn generated_ranges_show_a_missing_gain() {
+    let ranges = VALID.iter().find(|kind| kind.name == "ranges").expect("a kind");
+    let caught = (0..20).filter(|seed: &u64| {
+        [Manner::High, Manner::Low, Manner::Ends].into_iter().any(|manner| {
+            let mut before = Set::default();
+            let mut motion = Motion::new(manner, *seed);
+            Run::new(&ranges.file(*seed)).any(|item| {
+                let mut accepted = item.expect("accepted");
+                let set = accepted.set.clone();
+                if let Field::Ranged(ranged) = &accepted.field {
+                    accepted.set = ranged.step.apply(&before).set;
+                }
+                before = set;
+                motion.accept(&accepted);
+                motion.escape(&accepted.set, &accepted.outcome, &accepted.field).is_some()
+            })
+        })
+    });
+    let caught = caught.count();
+    assert!(caught > 10, "{caught}");
+}
+
 #[test]
 fn a_motion_whose_numbers_grow_too_long_is_said_to_stop() {
     let start = "start 1\nidentifiers 1\nterm 1 : 4095\n";

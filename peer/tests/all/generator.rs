@@ -9,7 +9,7 @@ use peer::random::Random;
 use peer::run::{Accepted, Outcome, Refusal, Run, FIRST_MARK, MAX_FIELDS};
 use peer::set::{Set, MAX_EXPONENT, MAX_FACTORS, MAX_GENERATORS, MAX_TERMS, SPAN_LIMIT};
 use peer::show::show;
-use peer::step::{dot, ROUND, UNIT};
+use peer::step::{dot, Ranged, ENTRY_LIMIT, ROUND, UNIT};
 
 const SEEDS: u64 = 40;
 
@@ -89,7 +89,7 @@ fn valid_kinds_reach_deep() {
             }
         }
     }
-    assert_eq!(tags, (1..=8).collect());
+    assert_eq!(tags, (1..=9).collect());
     assert_eq!(verdicts, [false, true].into());
     assert_eq!(dimensions, (1..=6).collect());
     assert!(by_exponent > 100 && by_size > 1_000 && generators > 100, "{by_exponent} {by_size} {generators}");
@@ -196,6 +196,82 @@ fn counts_have_hulls_on_both_sides_of_the_factors_limit() {
     assert_eq!(ends, [(10, None), (11, None), (12, Some(9))].into());
 }
 
+/// The ranged steps of a kind's files: the set before, the step, and the field.
+fn ranged_steps(name: &str) -> Vec<(Set, Ranged, Accepted)> {
+    let runs = (0..SEEDS).map(|seed| run(&kind(name).file(seed)).0);
+    let ranged = |fields: &[Accepted]| match &fields[1].field {
+        Field::Ranged(ranged) => Some((fields[0].set.clone(), ranged.clone(), fields[1].clone())),
+        _ => None,
+    };
+    runs.flat_map(|fields| fields.windows(2).filter_map(ranged).collect::<Vec<_>>()).collect()
+}
+
+/// By how much the half-widths widen each coordinate.
+fn widened(before: &Set, ranged: &Ranged, after: &Set) -> Vec<i128> {
+    let exact = ranged.step.apply(before).set;
+    after.radii.iter().zip(&exact.radii).map(|(wide, narrow)| wide - narrow).collect()
+}
+
+/// A rounding of the gain by itself would be noticed: it often makes one more than what is added.
+#[test]
+fn ranges_widen_by_much_and_by_little_and_round_once() {
+    let (mut by_much, mut by_little, mut rounded_once) = (0, 0, 0);
+    for (before, ranged, field) in ranged_steps("ranges") {
+        for (i, by) in widened(&before, &ranged, &field.set).into_iter().enumerate() {
+            let spans: Vec<i128> = (0..before.dimension()).map(|j| before.span(j)).collect();
+            let (row, form) = (&ranged.half_widths.matrix[i], &ranged.half_widths.forms[i]);
+            let products: i128 = form.iter().zip(&spans).map(|(row, s)| s * dot(row, &spans)).sum();
+            let gain = UNIT * dot(row, &spans) + products;
+            assert!((by - 1) * ROUND < gain && gain < (by + 1) * ROUND);
+            by_much += usize::from(by > 4 * UNIT);
+            by_little += usize::from(by > 0 && by < UNIT);
+            rounded_once += usize::from(by * ROUND < gain);
+        }
+    }
+    assert!(by_much > 100 && by_little > 50 && rounded_once > 100, "{by_much} {by_little} {rounded_once}");
+}
+
+#[test]
+fn full_ranges_have_every_entry_on_the_fullest_set() {
+    let full = |(before, ranged, field): &(Set, Ranged, Accepted)| {
+        let Ranged { step, half_widths } = ranged;
+        let nonzero = |numbers: &Vec<i128>| numbers.len() == 6 && numbers.iter().all(|v| *v != 0);
+        let entries = step.matrix.iter().chain(&half_widths.matrix);
+        let forms = step.forms.iter().chain(&half_widths.forms).flatten();
+        [before.identifiers.len(), before.terms.len(), before.generators.len()]
+            == [MAX_FACTORS, MAX_TERMS, MAX_GENERATORS]
+            && entries.chain(forms).filter(|row| nonzero(row)).count() == 2 * (6 + 36)
+            && field.folds.by_exponent + field.folds.by_size > 700
+    };
+    assert_eq!(ranged_steps("full-ranges").iter().filter(|step| full(step)).count() as u64, SEEDS);
+}
+
+/// An accepted entry and its half-width that are 32,768 together, and half-widths that are all 0.
+#[test]
+fn odd_ranges_reach_the_limit_and_zero() {
+    let steps: Vec<Ranged> = ranged_steps("odd-ranges").into_iter().map(|(_, ranged, _)| ranged).collect();
+    let at_limit = |Ranged { step, half_widths }: &&Ranged| {
+        let matrix = step.matrix.iter().zip(&half_widths.matrix);
+        let forms = step.forms.iter().flatten().zip(half_widths.forms.iter().flatten());
+        let mut rows = matrix.chain(forms);
+        rows.any(|(row, widths)| row.iter().zip(widths).any(|(a, width)| *width > 0 && a.abs() + width == ENTRY_LIMIT))
+    };
+    assert!(steps.iter().filter(at_limit).count() > 2);
+    assert!(steps.iter().filter(|ranged| ranged.half_widths == ranged.step.exactly()).count() > 4);
+}
+
+/// What the gain leaves of the span: one unit, nothing, or one too little.
+#[test]
+fn limits_have_ranged_steps_on_both_sides_of_the_span() {
+    for sign in [0, 75] {
+        let ends = [72, 73, 74].map(|seed| {
+            let (accepted, refusal) = run(&kind("limits").file(sign + seed));
+            (accepted.last().map(|field| field.set.span(0)), refusal.map(|refusal| refusal.cause as u8))
+        });
+        assert_eq!(ends, [(Some(SPAN_LIMIT - 1), None), (Some(SPAN_LIMIT), None), (Some(UNIT), Some(10)),]);
+    }
+}
+
 #[test]
 fn each_refusal_is_hit_by_its_kind() {
     for kind in &REFUSED {
@@ -223,15 +299,15 @@ fn refused_tags(name: &str) -> BTreeSet<u8> {
 
 #[test]
 fn refusals_come_in_fields_of_every_kind_that_can_have_them() {
-    assert_eq!(refused_tags("refusal-1"), (1..=8).collect());
-    assert_eq!(refused_tags("refusal-3"), (1..=8).collect());
-    assert_eq!(refused_tags("refusal-4"), (1..=8).collect());
-    assert_eq!(refused_tags("refusal-5"), [2, 3, 4, 5, 7, 8].into());
-    assert_eq!(refused_tags("refusal-6"), [1, 2, 3, 4, 5, 7, 8].into());
+    assert_eq!(refused_tags("refusal-1"), (1..=9).collect());
+    assert_eq!(refused_tags("refusal-3"), (1..=9).collect());
+    assert_eq!(refused_tags("refusal-4"), (1..=9).collect());
+    assert_eq!(refused_tags("refusal-5"), [2, 3, 4, 5, 7, 8, 9].into());
+    assert_eq!(refused_tags("refusal-6"), [1, 2, 3, 4, 5, 7, 8, 9].into());
     assert_eq!(refused_tags("refusal-7"), [1, 4, 5, 8].into());
     assert_eq!(refused_tags("refusal-8"), [1, 4, 5, 8].into());
     assert_eq!(refused_tags("refusal-9"), [4, 5, 8].into());
-    assert_eq!(refused_tags("refusal-10"), [2, 3, 4, 5, 6, 8].into());
+    assert_eq!(refused_tags("refusal-10"), [2, 3, 4, 5, 6, 8, 9].into());
 }
 
 /// How files of a kind end: with 0 for the end of input between fields, else the refusal's number.
@@ -243,12 +319,13 @@ fn endings(name: &str, seeds: u64) -> BTreeSet<u8> {
 #[test]
 fn other_kinds_end_in_every_way_they_can() {
     assert!(endings("order", 400).is_superset(&[1, 2, 3, 4, 5, 6, 7, 8, 9, 12].into()));
-    assert_eq!(endings("limits", 120), [0, 6, 8, 10].into());
-    assert_eq!(endings("counts", 57), [0, 4, 5, 7, 9, 12].into());
+    assert_eq!(endings("limits", 150), [0, 6, 8, 10].into());
+    assert_eq!(endings("counts", 66), [0, 4, 5, 7, 9, 12].into());
+    assert_eq!(endings("odd-ranges", 200), [0, 3, 4, 5, 6, 10].into());
     assert!(endings("folds", 200).is_superset(&[0, 10].into()));
     assert!(endings("lengths", 200).is_superset(&[1, 2, 3, 4].into()));
     assert_eq!(endings("plain-4098", 2), [12].into());
     assert!(endings("cut", 200).is_superset(&[0, 1].into()));
-    assert!(endings("damaged", 200).is_superset(&[0, 1, 2, 3, 6, 7, 8].into()));
+    assert!(endings("damaged", 400).is_superset(&[0, 1, 2, 3, 6, 7, 8].into()));
     assert!(endings("bytes", 200).is_superset(&[1, 2, 3, 4, 6, 7].into()));
 }

@@ -9,6 +9,7 @@ mod following;
 mod generator;
 mod hulls;
 mod plans;
+mod ranges;
 mod readings;
 mod refusals;
 mod workloads;

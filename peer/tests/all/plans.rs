@@ -26,10 +26,30 @@ fn a_fields_block() {
     assert_eq!(show(&bytes), plan);
 }
 
+/// Also with half-widths of 0 it is no plain step.
+#[test]
+fn a_ranged_steps_block() {
+    let bytes = run_file("ranged 1 from 2\nQ 1 : 1 2 / 3 4\nA 5 -6\nQ+- 1 : 0 0.5 / 0 0\nA+- 1.0 -1\nranged 1 from 1");
+    let plan = "ranged 1 from 2  # field 0, byte 0\n  c 0\n  A 5 -6\n  Q 1 : 1 2 / 3 4\n  A+- 4096 -1\n  \
+                Q+- 1 : 0 2048 / 0 0\nranged 1 from 1  # field 1, byte 57\n  c 0\n  A 0\n  A+- 0\n";
+    assert_eq!(show(&bytes), plan);
+    assert_eq!(run_file(plan), bytes);
+}
+
+/// c, A, Q, then the half-widths of A and of Q; forms by rows.
+#[test]
+fn a_ranged_steps_bytes() {
+    let words = |numbers: &[i32]| numbers.iter().flat_map(|v| v.to_le_bytes()).collect::<Vec<u8>>();
+    let half_widths = "A+- 9 10 / 11 12\nQ+- 1 : 13 14 / 15 16\nQ+- 2 : 17 18 / 19 20";
+    let plan = format!("ranged 2 from 2\nc -1 -2\nA 1 2 / 3 4\nQ 2 : 5 6 / 7 8\n{half_widths}");
+    let entries = [[-1, -2].to_vec(), (1..=4).collect(), vec![0; 4], (5..=20).collect()].concat();
+    assert_eq!(run_file(&plan), [vec![9, 106, 0, 2, 2], words(&entries)].concat());
+}
+
 #[test]
 fn what_is_no_field_is_shown_raw() {
-    let bytes = [run_file("reduce 1 2"), vec![9, 0, 255]].concat();
-    let plan = "reduce 1 2  # field 0, byte 0\n# field 1, byte 5: not a well-formed field\nraw 09 00 ff\n";
+    let bytes = [run_file("reduce 1 2"), vec![10, 0, 255]].concat();
+    let plan = "reduce 1 2  # field 0, byte 0\n# field 1, byte 5: not a well-formed field\nraw 0a 00 ff\n";
     assert_eq!(show(&bytes), plan);
     assert_eq!(show(&[]), "");
 }
@@ -77,10 +97,18 @@ fn bad_plans_get_a_message_with_the_line() {
         ("start 1\nidentifiers 1\nterm : 1", 3, "'term' needs 1 number here, not 0"),
         ("start 1\nidentifiers 1\nterm 256 : 1", 3, "256 is outside 0..255"),
         ("start 1\nidentifiers 1 2 3 4 5 6 7 8 9 10 11 12 13", 2, "a set has at most 12 identifiers"),
-        ("step 2", 1, "a step is written 'step M from N'"),
+        ("step 2", 1, "this step is written 'step M from N'"),
+        ("ranged 2 of 1", 1, "this step is written 'ranged M from N'"),
+        ("step 1 from 1\nA+- 1", 2, "'A+-' does not belong under 'step'"),
+        ("ranged 1 from 1\nhalfspace 1 : 1", 2, "'halfspace' does not belong under 'ranged'"),
+        ("ranged 1 from 1\nA+- 1\nA+- 1", 3, "a second 'A+-' in one field"),
+        ("ranged 2 from 1\nA+- 1", 2, "'A+-' needs 2 rows, not 1"),
+        ("ranged 1 from 2\nQ+- 1 : 1 2 / 3", 2, "'Q+-' needs 2 numbers here, not 1"),
+        ("ranged 1 from 1\nQ+- 1", 2, "'Q+-' needs one ':'"),
+        ("ranged 1 from 1\nQ+- 1 : 1\nQ+- 1 : 2", 3, "a second 'Q+-' of coordinate 1"),
         ("step 2 from 1\nA 1", 2, "'A' needs 2 rows, not 1"),
         ("step 1 from 1\nQ 2 : 1", 2, "2 is outside 1..1"),
-        ("step 1 from 1\nQ 1 : 1\nQ 1 : 2", 3, "a second form of coordinate 1"),
+        ("step 1 from 1\nQ 1 : 1\nQ 1 : 2", 3, "a second 'Q' of coordinate 1"),
         ("check 1", 1, "a check needs a halfspace"),
         ("reduce 1", 1, "'reduce' needs 2 numbers here, not 1"),
         ("reduce 1 2\nradii 1", 2, "'radii' does not belong under 'reduce'"),

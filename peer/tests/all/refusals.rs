@@ -40,22 +40,39 @@ fn tags() {
     assert_eq!(last_line(&[8]), "0 refused 2 0");
     assert_eq!(last_line(&[0, 0, 0]), "0 refused 2 0");
     assert_eq!(bytes_after_start(&[8]), refused(1));
-    assert_eq!(bytes_after_start(&[9]), refused(2));
+    assert_eq!(last_line(&[9]), "0 refused 2 0");
+    assert_eq!(bytes_after_start(&[9]), refused(1));
+    assert_eq!(bytes_after_start(&[10]), refused(2));
     assert_eq!(bytes_after_start(&[255, 255, 255]), refused(2), "an unknown tag with a huge length");
     assert_eq!(bytes_after_start(&[1]), refused(2), "a later start set");
 }
 
 #[test]
 fn lengths() {
-    for bytes in
-        [&[3, 0, 0][..], &[2, 1, 0, 2], &[7, 1, 0, 2], &[6, 1, 0, 41], &[4, 3, 0, 99, 99, 99], &[8, 3, 0, 2, 0, 0]]
-    {
+    for bytes in [
+        &[3, 0, 0][..],
+        &[2, 1, 0, 2],
+        &[7, 1, 0, 2],
+        &[6, 1, 0, 41],
+        &[4, 3, 0, 99, 99, 99],
+        &[8, 3, 0, 2, 0, 0],
+        &[9, 0, 0],
+        &[9, 1, 0, 7],
+    ] {
         assert_eq!(bytes_after_start(bytes), refused(3), "too short for its counts: {bytes:?}");
     }
     assert_eq!(bytes_after_start(&[6, 3, 0, 40, 24, 0]), refused(3));
     assert_eq!(bytes_after_start(&[6, 3, 0, 41, 24, 0]), refused(4), "limits come before the whole length");
     assert_eq!(bytes_after_start(&[3, 8, 0, 2, 1, 0, 0, 0, 1, 0, 0]), refused(3));
     assert_eq!(bytes_after_start(&[3, 10, 0, 2, 1, 0, 0, 0, 1, 0, 0, 0, 0]), refused(3));
+    // To 1 coordinate from 2: c, 6 entries, 6 half-widths; a plain step has no half-widths.
+    for (tag, length) in [(2, 2 + 4 * 7), (9, 2 + 4 * 13)] {
+        let zeros = |length: usize| [vec![tag, length as u8, 0, 1, 2], vec![0; length - 2]].concat();
+        assert_eq!(bytes_after_start(&zeros(length)), "end 1");
+        for other in [2, 2 + 4 * 7, 2 + 4 * 9, length - 1, length + 1, 2 + 4 * 13].iter().filter(|l| **l != length) {
+            assert_eq!(bytes_after_start(&zeros(*other)), refused(3), "{tag} {other}");
+        }
+    }
 }
 
 #[test]
@@ -67,7 +84,9 @@ fn counts() {
         }
     }
     for body in [[0, 2], [7, 2], [2, 0], [2, 7]] {
-        assert_eq!(bytes_after_start(&[&[2, 2, 0][..], &body].concat()), refused(4));
+        for tag in [2, 9] {
+            assert_eq!(bytes_after_start(&[&[tag, 2, 0][..], &body].concat()), refused(4));
+        }
     }
     for body in [[0, 1], [7, 1], [2, 0], [2, 9]] {
         assert_eq!(bytes_after_start(&[&[7, 2, 0][..], &body].concat()), refused(4));
@@ -89,6 +108,8 @@ fn dimensions() {
     assert_eq!(after_start("check 1\nhalfspace 1 : 0"), refused(5));
     assert_eq!(after_start("step 2 from 1"), refused(5));
     assert_eq!(after_start("step 1 from 2\ndisturbance 1"), "end 2", "a step may change the dimension");
+    assert_eq!(after_start("ranged 2 from 1"), refused(5));
+    assert_eq!(after_start("ranged 1 from 2\ndisturbance 1"), "end 2");
 }
 
 #[test]
@@ -100,6 +121,23 @@ fn ranges() {
         ("step 1 from 2\nA -32768 0", "step 1 from 2\nA 0 -32769"),
         ("step 1 from 2\nQ 1 : 0 32768 / 0 0", "step 1 from 2\nQ 1 : 0 0 / 32769 0"),
         ("step 1 from 2\nQ 1 : -32768 0 / 0 0", "step 1 from 2\nQ 1 : 0 0 / 0 -32769"),
+        ("ranged 1 from 2\nc -1048576", "ranged 1 from 2\nc -1048577"),
+        ("ranged 1 from 2\nA -32768 0", "ranged 1 from 2\nA 0 -32769"),
+        ("ranged 1 from 2\nQ 1 : 0 32768 / 0 0", "ranged 1 from 2\nQ 1 : 0 0 / 32769 0"),
+        ("ranged 1 from 2\nA+- 0 0", "ranged 1 from 2\nA+- 0 -1"),
+        ("ranged 1 from 2\nA+- 0 32768", "ranged 1 from 2\nA+- 0 32769"),
+        ("ranged 1 from 2\nA 1 4096\nA+- 32767 28672", "ranged 1 from 2\nA 1 4096\nA+- 0 28673"),
+        ("ranged 1 from 2\nA -32767 0\nA+- 1 32768", "ranged 1 from 2\nA -32767 0\nA+- 2 0"),
+        ("ranged 1 from 2\nA 32768 0\nA+- 0 1", "ranged 1 from 2\nA 32768 0\nA+- 1 0"),
+        ("ranged 1 from 2\nQ+- 1 : 0 0 / 0 32768", "ranged 1 from 2\nQ+- 1 : 0 0 / 0 32769"),
+        ("ranged 1 from 2\nQ+- 1 : 1 0 / 0 0", "ranged 1 from 2\nQ+- 1 : -1 0 / 0 0"),
+        (
+            "ranged 1 from 2\nQ 1 : 0 0 / -4096 0\nQ+- 1 : 0 0 / 28672 0",
+            "ranged 1 from 2\nQ 1 : 0 0 / -4096 0\nQ+- 1 : 0 0 / 28673 0",
+        ),
+        ("ranged 1 from 2", "ranged 1 from 2\nA -2147483648 0\nA+- 2147483647 0"),
+        ("ranged 1 from 2", "ranged 1 from 2\nA 32769 0\nA+- -1 0"),
+        ("ranged 1 from 2", "ranged 1 from 2\nQ+- 1 : -2147483648 0 / 0 0"),
         ("disturbance 2\nradii 0 0", "disturbance 2\nradii 0 -1"),
         ("disturbance 2\nradii 1048571 1048571", "disturbance 2\nradii 1048577 0"),
         ("check 2\nhalfspace 32768 -32768 : 0", "check 2\nhalfspace 0 32769 : 0"),
@@ -158,6 +196,11 @@ fn spans() {
     assert_eq!(after_start("disturbance 2\nradii 1048572 0"), refused(10));
     assert_eq!(after_start("step 2 from 2\nc 1048576 0\nA 4096 0 / 0 0"), refused(10));
     assert_eq!(after_start("step 2 from 2\nc 1048576 0"), "end 1");
+    assert_eq!(after_start("ranged 2 from 2\nc 1048576 0"), "end 1");
+    assert_eq!(after_start("ranged 2 from 2\nc 1048576 0\nA+- 0 0 / 1 0"), "end 1");
+    assert_eq!(after_start("ranged 2 from 2\nc 1048576 0\nA+- 1 0 / 0 0"), refused(10));
+    assert_eq!(after_start("ranged 2 from 2\nc 0 -1048576\nQ+- 2 : 0 1 / 0 0"), refused(10));
+    assert_eq!(after_start("ranged 2 from 2\nc 0 -1048575\nQ+- 2 : 0 1 / 0 0"), "end 1");
 }
 
 #[test]
@@ -205,6 +248,39 @@ fn order_of_refusals() {
         assert_eq!(field(1, 20, 1, 1_048_576, room + 1, 0, 0), refused(9));
         assert_eq!(field(1, 20, 1, 1_048_576, room, 0, 0), refused(10));
         assert_eq!(field(1, 20, 1, 0, room, 0, 0), refused(7), "a zero term");
-        assert_eq!(last_line(&[run_file(eight), vec![9]].concat()), refused(2));
+        assert_eq!(last_line(&[run_file(eight), vec![10]].concat()), refused(2));
     }
+}
+
+/// The same for a ranged step, whose half-width of -1 or of 32,769 is 6 and whose image is too wide.
+#[test]
+fn order_of_a_ranged_steps_refusals() {
+    let start = "start 1\ncentre 1048576\n";
+    let place = run_file(start).len();
+    let field = |tag: u8, m: u8, n: u8, half_width: i32, cut: usize, more: usize| {
+        let entries = usize::from(m) * usize::from(n) * (1 + usize::from(n));
+        let mut body = vec![m, n];
+        body.extend(vec![0; 4 * (usize::from(m) + 2 * entries - 1)]);
+        body.extend(half_width.to_le_bytes());
+        body.extend(vec![0; more]);
+        let mut bytes = run_file(start);
+        bytes.push(tag);
+        bytes.extend((body.len() as u16).to_le_bytes());
+        bytes.extend(&body[..body.len() - cut]);
+        last_line(&bytes)
+    };
+    let refused = |number: u8| format!("1 refused {number} {place}");
+    assert_eq!(field(10, 7, 7, -1, 1, 1), refused(2));
+    assert_eq!(field(9, 7, 7, -1, 1, 1), refused(1));
+    assert_eq!(last_line(&[run_file(start), vec![9, 1, 0, 7]].concat()), refused(3));
+    assert_eq!(field(9, 7, 2, -1, 0, 1), refused(4));
+    assert_eq!(field(9, 2, 7, -1, 0, 1), refused(4));
+    assert_eq!(field(9, 1, 2, -1, 0, 1), refused(3));
+    assert_eq!(field(9, 1, 2, -1, 0, 0), refused(5));
+    assert_eq!(field(9, 1, 1, -1, 0, 0), refused(6));
+    assert_eq!(field(9, 1, 1, 32_769, 0, 0), refused(6));
+    assert_eq!(field(9, 1, 1, 32_768, 0, 0), refused(10));
+    // 1,048,576² and 16,777,216 are 65,536: a half-width of 16 is as wide as can be.
+    assert_eq!(field(9, 1, 1, 17, 0, 0), refused(10));
+    assert_eq!(field(9, 1, 1, 16, 0, 0), "end 1");
 }

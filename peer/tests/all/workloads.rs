@@ -1,7 +1,9 @@
 //! The workloads: accepted to their end, and as demanding as they are said to be.
 
+use peer::field::Field;
 use peer::run::{Accepted, Outcome, Run, MAX_FIELDS};
 use peer::set::MAX_TERMS;
+use peer::step::Ranged;
 use peer::workload::{Workload, WORKLOADS};
 
 /// For each step, how many factors, terms and generators it is made on, and how many terms it folds.
@@ -15,7 +17,7 @@ fn accepted(name: &str) -> Vec<Accepted> {
 fn steps(name: &str) -> Steps {
     let fields = accepted(name);
     assert_eq!(fields.len(), 1 + MAX_FIELDS, "{name}");
-    let pairs = fields.windows(2).filter(|pair| pair[1].field.tag() == 2);
+    let pairs = fields.windows(2).filter(|pair| [2, 9].contains(&pair[1].field.tag()));
     pairs
         .map(|pair| {
             let (set, folds) = (&pair[0].set, pair[1].folds);
@@ -31,9 +33,9 @@ fn oscillator_steps_are_small_and_many() {
 }
 
 #[test]
-fn dense_linear_and_hardest_steps_are_on_full_sets() {
+fn dense_linear_ranged_and_hardest_steps_are_on_full_sets() {
     let full = |steps: &Steps| steps.iter().filter(|s| s[..3] == [12, 40, 24]).count();
-    for name in ["dense", "linear"] {
+    for name in ["dense", "linear", "ranges"] {
         assert_eq!(full(&steps(name)), 7 * MAX_FIELDS / 8, "{name}");
     }
     let hardest = steps("hardest");
@@ -58,6 +60,19 @@ fn hulls_are_half_of_the_fields_and_most_have_161_terms() {
     assert_eq!(hulls.len(), MAX_FIELDS / 2);
     let full = |pair: &&&[Accepted]| pair[0].set.terms.len() == MAX_TERMS && pair[1].folds.by_size > 60;
     assert!(4 * hulls.iter().filter(full).count() >= 3 * hulls.len());
+}
+
+#[test]
+fn ranges_have_no_plain_step_and_no_entry_without_a_half_width() {
+    let fields = accepted("ranges");
+    assert_eq!(fields.iter().filter(|field| field.field.tag() == 2).count(), 0);
+    let widths = |field: &Accepted| match &field.field {
+        Field::Ranged(Ranged { half_widths, .. }) => {
+            Some(half_widths.matrix.iter().chain(half_widths.forms.iter().flatten()).flatten().all(|width| *width > 0))
+        }
+        _ => None,
+    };
+    assert_eq!(fields.iter().filter_map(widths).collect::<Vec<bool>>(), [true].repeat(7 * MAX_FIELDS / 8));
 }
 
 /// The steps of a workload on sets of so many terms; some are on none.
