@@ -74,10 +74,11 @@ differs m n = not (eqb m n)
 abbrev pub badStepRange : Step.Step → Bool
 badStepRange p = any (beyond maxConstant) (p .constant) || any (beyond maxEntry) (p .linear) || any (beyond maxEntry) (p .quadratic)
 
--- an entry and its half-width are too large together
+-- an entry of a list and its half-width are too large together
 unfoldable pub beyondWith : List ℤ → List ℕ → Bool
 beyondWith entries widths = any (λ k. ltb maxEntry (natAbs (at entries k) + getD widths k 0)) (tab (length entries) (λ k. k))
 
+-- an entry of A or Q and its half-width are
 abbrev pub badWidthRange : Step.Step → Ranged.Widths → Bool
 badWidthRange p d = beyondWith (p .linear) (d .linear) || beyondWith (p .quadratic) (d .quadratic)
 

@@ -129,6 +129,7 @@ ofStep p dimension =
 abbrev pub workRefusal : Bool → Given → List Cause → Zonotope → Option ℕ
 workRefusal short g own result = firstOf ((13 if short) ∷ ofFirst g ++ (own ++ ((10 if tooWide result) ∷ [])))
 
+-- a step
 unfoldable pub stepRefusal : Bool → Step.Step → Given → Option ℕ
 stepRefusal short p g = workRefusal short g (ofStep p (g .set .dimension)) (Step.step standardWeights p (g .set))
 
@@ -148,5 +149,6 @@ ofRangedStep p d dimension =
     ∷ (6 if badWidthRange p d)
     ∷ []
 
+-- a ranged step
 unfoldable pub rangedRefusal : Bool → Step.Step → Widths → Given → Option ℕ
 rangedRefusal short p d g = workRefusal short g (ofRangedStep p d (g .set .dimension)) (rangedStep standardWeights p d (g .set))

@@ -14,25 +14,26 @@ pub record Widths : Type 0 where
   pub linear : List ℕ
   pub quadratic : List ℕ
 
--- from n coordinates
+-- with n columns
 module _ (n : ℕ) (d : Widths) where
-  -- of A_ij, and of Q_ijl
+  -- w_ij, the half-width of A_ij, and w_ijl, that of Q_ijl
   abbrev pub linearWidth : ℕ → ℕ → ℕ
   linearWidth i j = getD (d .linear) (i * n + j) 0
 
   abbrev pub quadraticWidth : ℕ → ℕ → ℕ → ℕ
   quadraticWidth i j l = getD (d .quadratic) ((i * n + j) * n + l) 0
 
-  -- what they add to coordinate i in raw units, with M the spans of the set:
-  -- the sum over j of 4096·(A_ij's)·M_j, plus that over j, l of (Q_ijl's)·M_j·M_l
+  -- what S of coordinate i gains, with M the spans of the set before the step:
+  -- the sum over j of 4096·w_ij·M_j, plus that over j, l of w_ijl·M_j·M_l
   unfoldable pub gain : Zonotope → ℕ → ℕ
   gain s i =
       uptoℕ (λ j. 4096 * (linearWidth i j * span s j)) n
       + uptoℕ (λ j. uptoℕ (λ l. quadraticWidth i j l * (span s j * span s l)) n) n
 
--- a step whose remainders gain these numbers, by coordinate, before they are rounded
+-- the step where S gains these numbers, by coordinate, before its one rounding up
 unfoldable pub gainingStep : List ℕ → (ℕ → ℕ) → Step → Zonotope → Zonotope
 gainingStep weights gains p s = settled weights (disturb (tab (p .rows) gains) (raw p s))
 
+-- the image under every step whose entries are within the half-widths
 unfoldable pub rangedStep : List ℕ → Step → Widths → Zonotope → Zonotope
 rangedStep weights p d s = gainingStep weights (gain (p .columns) d s) p s

@@ -146,14 +146,15 @@ fn halves_have_numbers_at_exact_halves() {
     assert!(halves > 10, "{halves}");
 }
 
-/// The hulls of a kind's files: the set before, the body, and the field.
-fn hulls(name: &str) -> Vec<(Set, Set, Accepted)> {
+/// The fields of a kind's files whose body `body` picks: the set before, the body, and the field.
+fn bodies<T>(name: &str, body: impl Fn(&Field) -> Option<T>) -> Vec<(Set, T, Accepted)> {
     let runs = (0..SEEDS).map(|seed| run(&kind(name).file(seed)).0);
-    let hull = |fields: &[Accepted]| match &fields[1].field {
-        Field::Hull(body) => Some((fields[0].set.clone(), body.clone(), fields[1].clone())),
-        _ => None,
-    };
-    runs.flat_map(|fields| fields.windows(2).filter_map(hull).collect::<Vec<_>>()).collect()
+    let picked = |fields: &[Accepted]| Some((fields[0].set.clone(), body(&fields[1].field)?, fields[1].clone()));
+    runs.flat_map(|fields| fields.windows(2).filter_map(&picked).collect::<Vec<_>>()).collect()
+}
+
+fn hulls(name: &str) -> Vec<(Set, Set, Accepted)> {
+    bodies(name, |field| if let Field::Hull(body) = field { Some(body.clone()) } else { None })
 }
 
 #[test]
@@ -196,14 +197,8 @@ fn counts_have_hulls_on_both_sides_of_the_factors_limit() {
     assert_eq!(ends, [(10, None), (11, None), (12, Some(9))].into());
 }
 
-/// The ranged steps of a kind's files: the set before, the step, and the field.
 fn ranged_steps(name: &str) -> Vec<(Set, Ranged, Accepted)> {
-    let runs = (0..SEEDS).map(|seed| run(&kind(name).file(seed)).0);
-    let ranged = |fields: &[Accepted]| match &fields[1].field {
-        Field::Ranged(ranged) => Some((fields[0].set.clone(), ranged.clone(), fields[1].clone())),
-        _ => None,
-    };
-    runs.flat_map(|fields| fields.windows(2).filter_map(ranged).collect::<Vec<_>>()).collect()
+    bodies(name, |field| if let Field::Ranged(ranged) = field { Some(ranged.clone()) } else { None })
 }
 
 /// By how much the half-widths widen each coordinate.

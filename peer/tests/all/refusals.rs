@@ -21,6 +21,15 @@ fn refused(number: u8) -> String {
     format!("1 refused {number} {NEXT}")
 }
 
+/// The last line for a plan and one more field, which lacks so many bytes at its end.
+fn last_line_with(plan: &str, tag: u8, body: &[u8], cut: usize) -> String {
+    let mut bytes = run_file(plan);
+    bytes.push(tag);
+    bytes.extend((body.len() as u16).to_le_bytes());
+    bytes.extend(&body[..body.len() - cut]);
+    last_line(&bytes)
+}
+
 #[test]
 fn input_ends() {
     assert_eq!(last_line(&[]), "0 refused 1 0");
@@ -229,11 +238,7 @@ fn order_of_refusals() {
             body.extend((0..factors).map(|k| if k == 0 { exponent } else { 1 }));
             body.extend(coefficient.to_le_bytes().repeat(usize::from(n)));
             body.extend(vec![0; 4 * usize::from(n) + more]);
-            let mut bytes = run_file(eight);
-            bytes.push(tag);
-            bytes.extend((body.len() as u16).to_le_bytes());
-            bytes.extend(&body[..body.len() - cut]);
-            last_line(&bytes)
+            last_line_with(eight, tag, &body, cut)
         };
         let refused = |number: u8| format!("1 refused {number} {place}");
         assert_eq!(field(7, 0, 64, 0, 13, 1, 1), refused(1));
@@ -263,11 +268,7 @@ fn order_of_a_ranged_steps_refusals() {
         body.extend(vec![0; 4 * (usize::from(m) + 2 * entries - 1)]);
         body.extend(half_width.to_le_bytes());
         body.extend(vec![0; more]);
-        let mut bytes = run_file(start);
-        bytes.push(tag);
-        bytes.extend((body.len() as u16).to_le_bytes());
-        bytes.extend(&body[..body.len() - cut]);
-        last_line(&bytes)
+        last_line_with(start, tag, &body, cut)
     };
     let refused = |number: u8| format!("1 refused {number} {place}");
     assert_eq!(field(10, 7, 7, -1, 1, 1), refused(2));
