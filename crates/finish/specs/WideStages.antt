@@ -2,14 +2,13 @@
 -- own width, widened.
 use mathlib.Core.Path.{_≡_, refl, sym, _∙_, ap, ap₂, fun-ext}
 use mathlib.Core.List.{List, _∷_, map, map-map}
-use mathlib.Core.Bool.{Bool, true, false, not, _||_}
+use mathlib.Core.Bool.{Bool, false, not, _||_}
 use Prim.Native.Nat.{ℕ, _≤_}
 use native.Mathlib.Nat.{zero-add}
 use native.Mathlib.Omega.{arith}
 use lib.Dec.{ltb}
 use lib.ListN.{length, List·getD-eq-default}
 use lib.IntN.{ℤ, pos}
-use Rattle.whole.specs.Half.{half, halfSize}
 use Rattle.whole.specs.Sum.{Monoid, monoidℕ, monoidℤ}
 use Rattle.whole.specs.Tab.{any}
 use Rattle.rational.specs.Power.{even}
@@ -20,6 +19,7 @@ use Rattle.model.specs.Valid.{isZero, zeros, occurs}
 use Rattle.model.specs.Finish.{Core, those, allEven, shift, growth, foldVector}
 use Rattle.model.specs.Finish.{foldTerm, foldGenerator, foldAll, tooHigh, size, foldUntil, keepExponents}
 use Rattle.model.proofs.Shape.{Row}
+use Rattle.model.proofs.FoldCovers.{shift-zero, growth-zero}
 use Rattle.model.proofs.Tests.{false-any}
 use Rattle.finish.specs.Wide.{padded, wideVector, wideTerm, wideCoefficients, wideCore, wideFolded}
 use Rattle.finish.specs.Padded.{padded-at, padded-all, padded-any, padded-map, padded-longer, padded-size, padded-keep}
@@ -31,16 +31,6 @@ sum-wide : {M : Type 0} {z : M} {add : M → M → M} (L : Monoid M z add) (f : 
     → longer add (padded n z u) (map f (padded n (pos 0) v)) ≡ padded n z (longer add u (map f v))
 sum-wide {z = z} {add = add} L f e n u v =
     ap (longer add (padded n z u)) (padded-map (pos 0) f n v ∙ ap (λ d. padded n d (map f v)) e) ∙ padded-longer L n u (map f v)
-
-shift-zero : (b : Bool) → shift b (pos 0) ≡ pos 0
-unfolding shift half
-shift-zero true = refl
-shift-zero false = refl
-
-growth-zero : (b : Bool) → growth b (pos 0) ≡ 0
-unfolding growth halfSize
-growth-zero true = refl
-growth-zero false = refl
 
 pub vector-wide : (b : Bool) (v : List ℤ) (k : Core) → foldVector b (wideVector v) (wideCore k) ≡ wideCore (foldVector b v k)
 unfolding foldVector

@@ -169,7 +169,7 @@ fn add_weighed(sum: u64, weight: u64, g: i64) -> u64
 fn shift_by(even: bool, g: i64) -> i64
     ensures { λ r. ⌜ r ≡ shift even g ⌝ }
 {
-    if even { whole::half_down(g) } else { 0 }
+    if even { whole::half(g) } else { 0 }
 }
 
 // How much folding it widens the radius.

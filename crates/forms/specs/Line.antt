@@ -2,11 +2,9 @@
 use mathlib.Core.Path.{_≡_, sym, _∙_, ap, ap₂}
 use Prim.Native.Nat.{ℕ}
 use native.Mathlib.Omega.{arith}
-use lib.Dec.{lit<}
 use lib.IntN.{ℤ, pos, _+ℤ_, _*ℤ_}
 use Rattle.whole.specs.AsNaturals.{as-ℕ}
-use Rattle.whole.specs.Floor.{floor-unique}
-use Rattle.whole.specs.Half.{half}
+use Rattle.whole.specs.Half.{half, half-twice}
 use Rattle.model.specs.Step.{dot, bilinear}
 use Rattle.forms.specs.Dot.{Vector, Form, dot-add, dot-right, dot-comm, add-dot, scale-dot, bilinear-swap}
 
@@ -38,11 +36,6 @@ line-dot n a q k g =
   where
     swap : (x y : ℤ) → x +ℤ y ≡ y +ℤ x
     swap x y = simp as-ℕ (omega arith)
-
--- half of what is twice a number
-half-twice : (z : ℤ) → half (z +ℤ z) ≡ z
-unfolding half
-half-twice z = sym (floor-unique (z +ℤ z) z 2 (lit< tt) (simp as-ℕ (omega arith)) (simp as-ℕ (omega arith)))
 
 -- a term with itself is half of its pair
 pub square-half : (n : ℕ) (q : Form) (g : Vector) → half (dot n g (turned n q g)) ≡ bilinear n q g g

@@ -50,7 +50,7 @@ tableLimit = 412451078144
 abbrev pub rawLimit : ℕ
 rawLimit = 2594917810295537664
 
--- no raw number is larger, so that with half a unit it fits 64 bits
+-- no raw number is larger
 abbrev pub roundLimit : ℕ
 roundLimit = 4611686018427387904
 

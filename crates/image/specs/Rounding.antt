@@ -5,13 +5,9 @@ use mathlib.Core.Path.{_≡_, refl, sym, _∙_, ap}
 use Prim.Native.Nat.{ℕ, _+_, _*_, _<_, _≤_}
 use native.Mathlib.Omega.{arith}
 use lib.Dec.{T}
-use lib.IntN.{ℤ, pos, natAbs, _+ℤ_, _-ℤ_, _*ℤ_}
+use lib.IntN.{ℤ, pos, natAbs, _-ℤ_, _*ℤ_}
 use lib.ListN.{length}
-use mir.Syntax.{w64}
-use mir.Val.{SFits}
 use Rattle.whole.specs.AsNaturals.{as-ℕ}
-use Rattle.whole.specs.Size.{abs-add}
-use Rattle.whole.specs.Fits.{fits-abs}
 use Rattle.whole.specs.Round.{scale, round, exact, inexact, exact-zero, round-near, round-multiple}
 use Rattle.whole.specs.Sum.{monoidℕ, sumℕ, uptoℕ, upto-cong}
 use Rattle.whole.specs.Tab.{tab-cong, map-tab, getD-tab}
@@ -44,9 +40,6 @@ inexact-small v = go (exact v)
     go : (b : Bool) → cond b 0 1 ≤ 1
     go true = omega arith
     go false = omega arith
-
-pub round-fits : (v : ℤ) → natAbs v ≤ roundLimit → SFits w64 (v +ℤ pos 8388608)
-round-fits v h = fits-abs (omega (arith, abs-add v (pos 8388608)))
 
 pub round-small : (v : ℤ) → natAbs v ≤ roundLimit → natAbs (round v) ≤ 274877906945
 round-small v h = by-size (round v) v h (round-near v)

@@ -7,8 +7,6 @@ ghost use Rattle.whole.specs.Tab.{tab};
 ghost use Rattle.whole.specs.Write.{write};
 ghost use Rattle.model.specs.Set.{at};
 ghost use Rattle.forms.specs.Tables.{rowOf};
-ghost use Rattle.forms.specs.Numbers.{roundLimit};
-ghost use Rattle.raw.specs.Append.{Bounded};
 ghost use Rattle.image.specs.Rounding.{inexactIn, inexactOf};
 ghost use Rattle.image.specs.Remainder.{Below};
 ghost use Rattle.image.specs.Counting.{grown};
@@ -33,7 +31,7 @@ pub fn counts(
 
 // The first n numbers, rounded in place.
 pub fn round_first(w: &mut [i64], n: usize)
-    requires { ⌜ (n ≤ length (now w)) × Bounded roundLimit n (now w) ⌝ }
+    requires { ⌜ n ≤ length (now w) ⌝ }
     ensures { λ _. ⌜ now (w .exit) ≡ write (now (w .entry)) 0 (λ (x : ℕ). round (at (now (w .entry)) x)) n ⌝ }
 {
     for x in 0..n {

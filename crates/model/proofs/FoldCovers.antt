@@ -6,7 +6,7 @@ use Prim.Native.Nat.{ℕ, zero, suc, _+_}
 use native.Mathlib.Omega.{arith}
 use lib.ListN.{length, getD, length-append, List·getD-map}
 use lib.IntN.{ℤ, pos, _+ℤ_}
-use Rattle.whole.specs.Half.{half, halfSize}
+use Rattle.whole.specs.Half.{half-parts, half-of-zero}
 use Rattle.rational.specs.Rational.{ℚ, _+ℚ_, ι, 1ℚ}
 use Rattle.rational.specs.Pinned.{ι-+}
 use Rattle.rational.specs.Bounds.{Within}
@@ -20,15 +20,22 @@ use Rattle.model.proofs.Parts.{Part, Ranged, termPart, generatorPart, t
 use Rattle.model.proofs.Parts.{spread, near-parts, by-parts, fold-near, fold-part, monomial-within, monomial-even}
 
 -- ---- the core, coordinate by coordinate
-shift-at : (b : Bool) (v : List ℤ) (i : ℕ) → at (map (shift b) v) i ≡ shift b (at v i)
-unfolding shift half
-shift-at true v i = List·getD-map (shift true) v i (pos 0)
-shift-at false v i = List·getD-map (shift false) v i (pos 0)
+-- a coefficient 0 moves and widens nothing
+pub shift-zero : (b : Bool) → shift b (pos 0) ≡ pos 0
+unfolding shift
+shift-zero true = half-of-zero
+shift-zero false = refl
 
-growth-at : (b : Bool) (v : List ℤ) (i : ℕ) → getD (map (growth b) v) i 0 ≡ growth b (at v i)
-unfolding growth halfSize
-growth-at true v i = List·getD-map (growth true) v i (pos 0)
-growth-at false v i = List·getD-map (growth false) v i (pos 0)
+pub growth-zero : (b : Bool) → growth b (pos 0) ≡ 0
+unfolding growth
+growth-zero true = omega (arith, half-parts (pos 0))
+growth-zero false = refl
+
+pub shift-at : (b : Bool) (v : List ℤ) (i : ℕ) → at (map (shift b) v) i ≡ shift b (at v i)
+shift-at b v i = ap (getD (map (shift b) v) i) (sym (shift-zero b)) ∙ List·getD-map (shift b) v i (pos 0)
+
+pub growth-at : (b : Bool) (v : List ℤ) (i : ℕ) → getD (map (growth b) v) i 0 ≡ growth b (at v i)
+growth-at b v i = ap (getD (map (growth b) v) i) (sym (growth-zero b)) ∙ List·getD-map (growth b) v i (pos 0)
 
 module _ (b : Bool) (v : List ℤ) (c : Core) (i : ℕ) where
   folded-centre : ι (at (foldVector b v c .centre) i) ≡ ι (at (c .centre) i) +ℚ ι (shift b (at v i))

@@ -52,21 +52,18 @@ boxed n low₁ high₁ low₂ high₂ = record { field = n; outcome = inside (re
 abbrev term : List ℕ → ℤ → ℤ → Term
 term e g h = record { exponents = e; coefficients = two g h }
 
--- with v the blending factor: 101 + v + γ + 3β + 3βv + 24α + 17αv ± 11 and -49 + γv + 2β + 2βv + α - 3αv ± 10. Of the first coordinate 8
--- halves are rounded and the independent parts are 7 and 5, of the second 6 with 3 and 7
+-- with v the blending factor: 100 + 2β + 2βv + 24α + 16αv ± 11 and -50 + 2β + 2βv + α - 3αv ± 10; γ's halves round to 0. Of the first
+-- coordinate 8 halves are rounded and the independent parts are 7 and 5, of the second 6 with 3 and 7
 abbrev left : State
 left = record {
   set = some (record {
     dimension = 2;
-    identifiers = 3 ∷ 7 ∷ 9 ∷ 65536 ∷ [];
-    centre = two (pos 101) (negsuc 48);
-    terms = term (0 ∷ 0 ∷ 0 ∷ 1 ∷ []) (pos 1) (pos 0)
-        ∷ term (0 ∷ 0 ∷ 1 ∷ 0 ∷ []) (pos 1) (pos 0)
-        ∷ term (0 ∷ 0 ∷ 1 ∷ 1 ∷ []) (pos 0) (pos 1)
-        ∷ term (0 ∷ 1 ∷ 0 ∷ 0 ∷ []) (pos 3) (pos 2)
-        ∷ term (0 ∷ 1 ∷ 0 ∷ 1 ∷ []) (pos 3) (pos 2)
-        ∷ term (1 ∷ 0 ∷ 0 ∷ 0 ∷ []) (pos 24) (pos 1)
-        ∷ term (1 ∷ 0 ∷ 0 ∷ 1 ∷ []) (pos 17) (negsuc 2)
+    identifiers = 3 ∷ 7 ∷ 65536 ∷ [];
+    centre = two (pos 100) (negsuc 49);
+    terms = term (0 ∷ 1 ∷ 0 ∷ []) (pos 2) (pos 2)
+        ∷ term (0 ∷ 1 ∷ 1 ∷ []) (pos 2) (pos 2)
+        ∷ term (1 ∷ 0 ∷ 0 ∷ []) (pos 24) (pos 1)
+        ∷ term (1 ∷ 0 ∷ 1 ∷ []) (pos 16) (negsuc 2)
         ∷ [];
     generators = [];
     radii = two 11 10;
@@ -78,7 +75,7 @@ left = record {
 
 pub two-outcomes :
     (answers 0 begin (fields (started ++ hulled))
-    ≡ boxed 0 (pos 49) (pos 153) (negsuc 57) (negsuc 41) ∷ boxed 1 (pos 41) (pos 161) (negsuc 67) (negsuc 29) ∷ [])
+    ≡ boxed 0 (pos 49) (pos 153) (negsuc 57) (negsuc 41) ∷ boxed 1 (pos 45) (pos 155) (negsuc 67) (negsuc 31) ∷ [])
     × (run (fields (started ++ hulled)) begin ≡ left)
 unfolding answers outcome after run causes firstOf misplaced cut kindOf fields fieldsWithin meaning number word givenSet badRange badOrder
     tooWide span termSizes generatorSizes rises order sumBy uptoBy tab any all hull blended opposite rounded inexactAt roundedRadius round

@@ -24,9 +24,9 @@ unfolding step rounded raw rawCentre rawLinear rawSquare rawPair pairs remainder
     collectTerms insert collectInto those foldAll foldVector shift growth foldTimes foldSmallest smallest size keepAt order any all even
     half halfSize causes firstOf misplaced cut kindOf meaning number word givenSet badRange badOrder tooWide span rises
 marked = record {
-  half-rounds-up = refl;
+  half-rounds-to-even = refl;
   less-rounds-down = refl;
-  minus-half-rounds-up = refl;
+  minus-half-rounds-to-even = refl;
   more-rounds-down = refl;
   folds-even = refl;
   folds-negative = refl;

@@ -47,7 +47,7 @@ entries = words (two (pos 0) (pos 0)) ++ words (two (pos 2048) (pos 2048)) ++ wo
 abbrev ranged : List ℤ → List ℤ → List ℕ
 ranged a q = field 9 (two 2 2 ++ entries ++ words a ++ words q)
 
--- (250, -125) + (10, -5)·α + (8, 3) with these radii
+-- (250, -125) + (10, -5)·α + (8, 2) with these radii
 abbrev left : ℕ → ℕ → State
 left r₁ r₂ = record {
   set = some (record {
@@ -55,7 +55,7 @@ left r₁ r₂ = record {
     identifiers = 1 ∷ [];
     centre = two (pos 250) (negsuc 124);
     terms = record { exponents = 1 ∷ []; coefficients = two (pos 10) (negsuc 4) } ∷ [];
-    generators = two (pos 8) (pos 3) ∷ [];
+    generators = two (pos 8) (pos 2) ∷ [];
     radii = two r₁ r₂;
   });
   next = firstFresh;

@@ -1,4 +1,4 @@
--- Document 01's marked cases as one table. The theorem is `marked`, in proofs/Marked.antt.
+-- Document 01's marked cases, with the rounding of request A.3, as one table. The theorem is `marked`, in proofs/Marked.antt.
 use mathlib.Core.Path.{_≡_}
 use mathlib.Core.List.{List, [], _∷_, _++_}
 use mathlib.Core.Option.{none, some}
@@ -38,16 +38,16 @@ started k = (1 ∷ 21 ∷ 0 ∷ []) ++ (1 ∷ 1 ∷ 1 ∷ 0 ∷ []) ++ (1 ∷ 0 
 
 -- ---- the table
 pub record MarkedTable : Type 0 where
-  -- round 8,388,608 → 1; 8,388,607 → 0; -8,388,608 → 0; -8,388,609 → -1
-  pub half-rounds-up : round (pos 8388608) ≡ pos 1
+  -- round 8,388,608 → 0; 8,388,607 → 0; -8,388,608 → 0; -8,388,609 → -1
+  pub half-rounds-to-even : round (pos 8388608) ≡ pos 0
   pub less-rounds-down : round (pos 8388607) ≡ pos 0
-  pub minus-half-rounds-up : round (negsuc 8388607) ≡ pos 0
+  pub minus-half-rounds-to-even : round (negsuc 8388607) ≡ pos 0
   pub more-rounds-down : round (negsuc 8388608) ≡ negsuc 0
-  -- fold 3α²: centre +1, radius 2; -3α²: centre -2, radius 2
+  -- fold 3α²: centre +1, radius 2; -3α²: centre -1, radius 2
   pub folds-even : foldTerm (term 2 (pos 3)) (about (pos 0) 0) ≡ about (pos 1) 2
-  pub folds-negative : foldTerm (term 2 (negsuc 2)) (about (pos 0) 0) ≡ about (negsuc 1) 2
-  -- the term 1·α with A = 2048: 1·α and radius 1
-  pub halves-term : step standardWeights (scalar (pos 2048) (pos 0)) (single (term 1 (pos 1)) 0) ≡ single (term 1 (pos 1)) 1
+  pub folds-negative : foldTerm (term 2 (negsuc 2)) (about (pos 0) 0) ≡ about (negsuc 0) 2
+  -- the term 1·α with A = 2048: radius 1 alone
+  pub halves-term : step standardWeights (scalar (pos 2048) (pos 0)) (single (term 1 (pos 1)) 0) ≡ plain (pos 0) 1
   -- centre 1,048,575 with coefficient 1 accepted; 1,048,576 with 1 gives 8
   pub widest : refusal begin (started (255 ∷ 255 ∷ 15 ∷ 0 ∷ [])) ≡ none
   pub too-wide : refusal begin (started (0 ∷ 0 ∷ 16 ∷ 0 ∷ [])) ≡ some 8

@@ -6,9 +6,9 @@ use Prim.Native.Nat.{ℕ, _+_, _*_, _-_, _/_, _%_, _<_, _≤_}
 use native.Mathlib.Omega.{arith}
 use borrow.Author.Tests.{eq-eqb, ne-eqb}
 use lib.Dec.{eqb}
-use lib.IntN.{ℤ, pos, negsuc, natAbs}
+use lib.IntN.{ℤ, pos, natAbs}
 use lib.ListN.{length, getD, drop}
-use Rattle.whole.specs.Half.{half}
+use Rattle.whole.specs.Half.{half, half-parts, half-of-zero}
 use Rattle.whole.specs.Tab.{tab}
 use Rattle.whole.specs.Write.{write, write-length, write-cong, write-at, write-over}
 use Rattle.rows.specs.Rows.{rowsOf, Small}
@@ -69,9 +69,7 @@ module _ (column coefficients w w₁ : List ℤ) (r s t : ℕ) (e : w₁ ≡ wri
       ∙ write-over w (r * 6) (product column coefficients t) (pairNumber column coefficients s t) (pos 0) 6 l
 
 pub half-small : (z : ℤ) (K : ℕ) → natAbs z ≤ K → natAbs (half z) ≤ K
-unfolding half
-half-small (pos a) K h = omega arith
-half-small (negsuc a) K h = omega arith
+half-small z K h = omega (arith, half-parts z)
 
 pub number-small : (column coefficients : List ℤ) → Small 1048576 coefficients → Small tableLimit column → (s t i : ℕ)
     → natAbs (pairNumber column coefficients s t i) ≤ rawLimit
@@ -212,7 +210,7 @@ module _ (both coefficients : List ℤ) (exponents : List ℕ) (h : ℕ) (e₀ :
 
   -- without forms each pair's numbers are 0
   pair-zero : RowsTo 0 both → (s t i : ℕ) → pairNumber (columnTable both coefficients s) coefficients s t i ≡ pos 0
-  unfolding pairNumber half
+  unfolding pairNumber
   pair-zero b s t i = go (eqb s t)
     where
       column : List ℤ
@@ -222,7 +220,7 @@ module _ (both coefficients : List ℤ) (exponents : List ℕ) (h : ℕ) (e₀ :
       nothing = dot-past 0 (rowOf coefficients t) column (column-to 0 both coefficients s b) i (omega arith)
 
       go : (x : Bool) → cond x (half (product column coefficients t i)) (product column coefficients t i) ≡ pos 0
-      go true = ap half nothing
+      go true = ap half nothing ∙ half-of-zero
       go false = nothing
 
   -- and their rows needn't be made

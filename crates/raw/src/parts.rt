@@ -38,7 +38,7 @@ fn centre_number(c: &[i32; 6], a: &[i32; 36], lines: &[i64; 36], k: &[i32; 6], i
 {
     let x = forms::dot_rows(k, 0, lines, i);
     let y = forms::dot_linear(a, i, k);
-    let n = whole::half_down(whole::multiply_add(x, 4096, y));
+    let n = whole::half(whole::multiply_add(x, 4096, y));
     let v = whole::widen(c[i]);
     whole::multiply_add(n, 16777216, v)
 }

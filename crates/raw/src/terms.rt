@@ -89,14 +89,14 @@ fn number(table: &[i64], i: usize, v: &[i32], t: usize, m: usize) -> i64
     }
 }
 
-// Half of each number of row r, rounded down.
+// Half of each number of row r.
 fn halve_row(w: &mut [i64], r: usize)
     requires { ⌜ (r < 860) × (r * 6 + 6 ≤ length (now w)) ⌝ }
     ensures { λ _. ⌜ now (w .exit) ≡ write (now (w .entry)) (r * 6) (λ (i : ℕ). half (at (now (w .entry)) (r * 6 + i))) 6 ⌝ }
 {
     for i in 0..6 {
         let x = w[r * 6 + i];
-        w[r * 6 + i] = whole::half_down(x);
+        w[r * 6 + i] = whole::half(x);
     }
 }
 

@@ -4,7 +4,7 @@ use mathlib.Core.Bool.{true, false}
 use Prim.Native.Nat.{ℕ, zero, suc, _-_, _%_, _^_, _<_}
 use native.Mathlib.Omega.{arith}
 use borrow.Author.Tests.{ne-eqb}
-use lib.Dec.{eqb}
+use lib.Dec.{eqb, lit<}
 use lib.IntN.{ℤ, pos, negsuc, negℤ, _-ℤ_}
 use lib.Signed.{ltZ, quotZ, remZ}
 use mir.Syntax.{w64}
@@ -14,6 +14,7 @@ use Rattle.whole.proofs.Stored.{stored}
 use Rattle.whole.specs.AsNaturals.{ltZ-true, ltZ-false}
 use Rattle.whole.specs.Fits.{fits-quot, fits-rem, fits-floor}
 use Rattle.whole.specs.Floor.{floor, quot-floor, quot-less-floor}
+use Rattle.whole.specs.Half.{half}
 use Rattle.whole.specs.Round.{exact}
 
 module _ (v : ℤ) (d : ℕ) (h : 0 < d) (f : SFits w64 v) where
@@ -35,6 +36,15 @@ module _ (v : ℤ) (d : ℕ) (h : 0 < d) (f : SFits w64 v) where
 
   pub above-floor : ltZ (stored (remZ (stored v) (pos d))) (pos 0) ≡ false → stored (quotZ (stored v) (pos d)) ≡ floor v d
   above-floor t = quotient ∙ quot-floor v d h (ltZ-false (remZ v (pos d)) (pos 0) .0 (rw remainder at t))
+
+-- ---- rounded toward zero, division is the fold rule's half
+quot-half : (g : ℤ) → quotZ g (pos 2) ≡ half g
+unfolding half
+quot-half (pos n) = refl
+quot-half (negsuc n) = refl
+
+pub toward-zero : (g : ℤ) → SFits w64 g → stored (quotZ (stored g) (pos 2)) ≡ half g
+toward-zero g f = quotient g 2 (lit< tt) f ∙ quot-half g
 
 -- a remainder by the scale is compared with 0 by its bits
 nonzero : (n : ℕ) → n < 16777216 → eqb (ofZ w64 (negℤ (pos n))) 0 ≡ eqb n 0

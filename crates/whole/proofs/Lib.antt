@@ -1,3 +1,4 @@
 pub mod Stored
 pub mod Divide
+pub mod Nearest
 pub mod Magnitude

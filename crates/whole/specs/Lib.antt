@@ -4,7 +4,7 @@
 --     a ring identity that `as-ℕ` can't do                 Quote, resting on Polynomial and Normaliser
 --     what fits 64 bits, a number read back from its bits  Fits
 --     division rounded down                                Floor
---     the rounding rule of a step, the fold rule           Round, Half
+--     the rounding rule of a step, the fold rule           Round, Half, alike for both signs by Mirror
 --     sums over lists and over places                      Sum
 --     a slice that a loop fills, a part that was lent      Write
 --     the rule of a constant table                         Table
@@ -20,6 +20,7 @@ pub mod Normaliser
 pub mod Quote
 pub mod Fits
 pub mod Floor
+pub mod Mirror
 pub mod Round
 pub mod Half
 pub mod Sum

@@ -1,7 +1,7 @@
-// Whole-number arithmetic: leaf functions of one to three operations, each with a contract in plain ℤ or ℕ.
+// Whole-number arithmetic: leaf functions of a few operations, each with a contract in plain ℤ or ℕ.
 // A function that could leave 64 bits asks, in its `requires`, that the result fits.
 ghost use mathlib.Core.Path.{_≡_};
-ghost use Prim.Native.Nat.{_+_, _*_, _^_, _≤_, _<_};
+ghost use Prim.Native.Nat.{_+_, _*_, _%_, _^_, _≤_, _<_};
 ghost use lib.IntN.{pos, natAbs, _+ℤ_, _-ℤ_, _*ℤ_};
 ghost use lib.Signed.{ltZ};
 ghost use mir.Syntax.{w64};
@@ -94,12 +94,21 @@ pub fn floor_scale(v: i64) -> i64
     if v % SCALE < 0 { q - 1 } else { q }
 }
 
-// v / 16,777,216 to the nearest whole number, an exact half upward.
+// v / 16,777,216 to the nearest whole number, an exact half to the even neighbour: one more than the number below where the rest is more
+// than half a unit, or is half a unit and the number below is odd.
 pub fn round_scale(v: i64) -> i64
-    requires { ⌜ SFits w64 (v +ℤ pos 8388608) ⌝ }
     ensures { λ r. ⌜ r ≡ round v ⌝ }
 {
-    floor_scale(add(v, 8388608))
+    let below = floor_scale(v);
+    let rest = v - below * SCALE;
+    below + (rest + 8388607 + odd(below)) / SCALE
+}
+
+// 1 for an odd number, 0 for an even one.
+fn odd(z: i64) -> i64
+    ensures { λ r. ⌜ r ≡ pos (natAbs z % 2) ⌝ }
+{
+    (size(z) % 2) as i64
 }
 
 // Whether rounding v loses nothing.
@@ -116,12 +125,11 @@ pub fn count_inexact(v: i64) -> u64
     if is_exact(v) { 0 } else { 1 }
 }
 
-// How far folding an even term with coefficient g moves the centre: g / 2, rounded down.
-pub fn half_down(g: i64) -> i64
+// How far folding an even term with coefficient g moves the centre: g / 2, rounded toward zero.
+pub fn half(g: i64) -> i64
     ensures { λ r. ⌜ r ≡ half g ⌝ }
 {
-    let q = g / 2;
-    if g % 2 < 0 { q - 1 } else { q }
+    g / 2
 }
 
 // How much folding it widens the radius: |g| / 2, rounded up.

@@ -1,7 +1,5 @@
 -- `hulling::finished` meets its contract: the blend rounded, and finished.
 use Rattle.hulling.specs.HullRows.{hull-finishable, hull-as}
-use Rattle.raw.specs.Append.{small-bounded}
-use Rattle.image.specs.Rounding.{bounded-mono}
 use Rattle.answers.specs.Finishing.{zeros-small}
 use Rattle.summing.specs.Summand.{for-sum}
 use native.Mathlib.Omega.{arith}
@@ -55,17 +53,13 @@ mul-round-first : tie.Need-mul-round-first
 mul-round-first c = search needs
 
 round-first-requires : tie.Need-round-first-requires
-round-first-requires c κs =
-    let b = blend-of (c .before) in
-    (omega arith, bounded-mono (small-bounded _ (b .blend .ensures .numbers-small)) (omega arith))
+round-first-requires c κs = omega arith
 
 slice-aggregate-round-first-2 : tie.Need-slice-aggregate-round-first-2
 slice-aggregate-round-first-2 c = search needs
 
 round-first-requires-2 : tie.Need-round-first-requires-2
-round-first-requires-2 c κs =
-    let b = blend-of (c .before .before .before .before) in
-    (search needs, bounded-mono (small-bounded 6 (b .blend .ensures .centre-small)) (omega arith))
+round-first-requires-2 c κs = search needs
 
 with-next-requires : tie.Need-with-next-requires
 with-next-requires c κs = search needs

@@ -12,8 +12,6 @@ use Rattle.forms.specs.RowsTo.{RowsTo, both-to, lines-to}
 use Rattle.raw.specs.Accepted.{InSpan}
 use Rattle.raw.specs.Unused.{counts-in}
 use Rattle.raw.specs.Limits.{centre-small}
-use Rattle.raw.specs.Append.{small-bounded}
-use Rattle.image.specs.Rounding.{bounded-mono}
 use Rattle.image.specs.Counted.{counts-below}
 use Rattle.image.specs.Imaged.{imaged}
 use Rattle.image.proofs.of_wide_step.Statement.{statement}
@@ -118,24 +116,19 @@ mul-round-first c = search needs
 round-first-requires : tie.Need-round-first-requires
 round-first-requires c κs =
     let t = c .before .before .before .before .before .before .before .before .before .before .before .before .before .before .before in
-    let z = start (made t) in
-    (omega (arith, t .all-rows .kept, t .all-rows .ensures .inside, z .pre .8), bounded-mono (t .all-rows .ensures .numbers) (omega arith))
+    omega (arith, t .all-rows .kept, t .all-rows .ensures .inside, start (made t) .pre .8)
 
 slice-aggregate-round-first : tie.Need-slice-aggregate-round-first
 slice-aggregate-round-first c = search needs
 
 round-first-requires-2 : tie.Need-round-first-requires-2
-round-first-requires-2 c κs =
-    let k = c .before .before .before .before .before .before .before .before .before .before .before .before .before in
-    (search needs, small-bounded 6 (k .centre .ensures .small))
+round-first-requires-2 c κs = search needs
 
 slice-aggregate-round-first-2 : tie.Need-slice-aggregate-round-first-2
 slice-aggregate-round-first-2 c = search needs
 
 round-first-requires-3 : tie.Need-round-first-requires-3
-round-first-requires-3 c κs =
-    let g = c .before .before .before .before .before .before .before .before .before .before .before .before .before .before in
-    (search needs, small-bounded 144 (g .generators .ensures .small))
+round-first-requires-3 c κs = search needs
 
 same-length : tie.Need-same-length
 same-length c =

@@ -12,7 +12,6 @@ use Rattle.whole.specs.Round.{round}
 use Rattle.whole.specs.Write.{write-after}
 use Rattle.model.specs.Set.{at}
 use Rattle.forms.specs.Filling.{Writing, writing-begins, first-again, writing-ends}
-use Rattle.image.specs.Rounding.{round-fits}
 use Rattle.image.proofs.rounding.round_first.Statement.{statement}
 use Rattle.image.proofs.rounding.round_first.Tie as tie
 
@@ -45,10 +44,7 @@ slice-copy-out-v : tie.Need-slice-copy-out-v Inv-loop μ-loop
 slice-copy-out-v c = search needs
 
 round-scale-requires : tie.Need-round-scale-requires Inv-loop μ-loop
-round-scale-requires c κs =
-    let l = c .before .before in
-    rw (v-is c) (round-fits (at (l .before .args .w .now) (l .loop .x))
-    (l .before .pre .1 .bounded (l .loop .x) (c .before .loop-test .taken)))
+round-scale-requires c κs = search needs
 
 mul-y : tie.Need-mul-y Inv-loop μ-loop
 mul-y c = search needs

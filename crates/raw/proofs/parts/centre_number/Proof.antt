@@ -47,12 +47,12 @@ x-is c = got64 (c .dot-rows .ensures) (c .dot-rows .ok)
 y-is : (c : tie.After-dot-linear) → toZ w64 (ofZ w64 (c .dot-linear .result)) ≡ Y (c .before .before .before .before)
 y-is c = got64 (c .dot-linear .ensures) (c .dot-linear .ok)
 
-h-is : (c : tie.After-half-down) → toZ w64 (ofZ w64 (c .half-down .result)) ≡ H (c .before .before .before .before .before .before)
+h-is : (c : tie.After-half) → toZ w64 (ofZ w64 (c .half .result)) ≡ H (c .before .before .before .before .before .before)
 h-is c =
     let n = c .before in
     let y = n .before in
-    got64 (c .half-down .ensures ∙ ap half (got64 (n .multiply-add .ensures
-    ∙ ap₂ (λ (u v : ℤ). u +ℤ pos 4096 *ℤ v) (x-is (y .before)) (y-is y)) (n .multiply-add .ok))) (c .half-down .ok)
+    got64 (c .half .ensures ∙ ap half (got64 (n .multiply-add .ensures
+    ∙ ap₂ (λ (u v : ℤ). u +ℤ pos 4096 *ℤ v) (x-is (y .before)) (y-is y)) (n .multiply-add .ok))) (c .half .ok)
 
 v-is : (c : tie.After-widen) → toZ w64 (ofZ w64 (c .widen .result)) ≡ C (c .before .before .before .before .before .before .before .before)
 v-is c =
@@ -72,8 +72,8 @@ multiply-add-requires c κs =
     let o = y-room s in
     rw (x-is (c .before), y-is c) (omega arith)
 
-half-down-requires : tie.Need-half-down-requires
-half-down-requires c κs = search needs
+half-requires : tie.Need-half-requires
+half-requires c κs = search needs
 
 mul-widen : tie.Need-mul-widen
 mul-widen c = search needs
@@ -107,7 +107,7 @@ centre-number-spec =
     dot-rows-requires
     dot-linear-requires
     multiply-add-requires
-    half-down-requires
+    half-requires
     mul-widen
     element-copy-out-widen
     widen-requires

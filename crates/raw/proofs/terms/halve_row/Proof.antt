@@ -51,8 +51,8 @@ mul-x-2 c = search needs
 slice-copy-out-x : tie.Need-slice-copy-out-x Inv-loop μ-loop
 slice-copy-out-x c = search needs
 
-half-down-requires : tie.Need-half-down-requires Inv-loop μ-loop
-half-down-requires c κs = search needs
+half-requires : tie.Need-half-requires Inv-loop μ-loop
+half-requires c κs = search needs
 
 mul-t6 : tie.Need-mul-t6 Inv-loop μ-loop
 mul-t6 c = search needs
@@ -77,7 +77,7 @@ loop-again c =
     let d = c .before in
     let l = d .before .before in
     writing-again _ (l .before .args .r * 6) (F (l .before)) 6 (l .loop .i) (l .loop .w) _ (l .loop .inv) (omega arith)
-    (got64 (c .half-down .ensures ∙ ap half (x-is d)) (c .half-down .ok))
+    (got64 (c .half .ensures ∙ ap half (x-is d)) (c .half .ok))
 
 same-length : tie.Need-same-length Inv-loop μ-loop
 same-length c = search needs
@@ -97,7 +97,7 @@ halve-row-spec =
     add-x
     mul-x-2
     slice-copy-out-x
-    half-down-requires
+    half-requires
     mul-t6
     add-t8
     mul-t7
