@@ -35,7 +35,7 @@ place {A} f a (b ∷ l) = let p = place f b l in
 module _ {A : Type 0} (fold : A → Core → Core) (P : Core → List A → Type 0)
     (keeps : (c : Core) (k : List A) (a : A) (l : List A) → P c (k ++ (a ∷ l)) → P (fold a c) (k ++ l)) where
   -- those that pass the test are folded
-  those-keep : (p : A → Bool) (c : Core) (k l : List A) → P c (k ++ l) → P (foldAll fold (those p l) c) (k ++ those (λ a. not (p a)) l)
+  pub those-keep : (p : A → Bool) (c : Core) (k l : List A) → P c (k ++ l) → P (foldAll fold (those p l) c) (k ++ those (λ a. not (p a)) l)
   unfolding foldAll those
   those-keep p c k [] h = h
   those-keep p c k (a ∷ l) h =
@@ -57,7 +57,7 @@ module _ {A : Type 0} (fold : A → Core → Core) (P : Core → List A → Type
         subst (P (fold (t .out) c)) (sym (p .rest-is)) (keeps c (p .before) (t .out) (p .after) (subst (P c) (p .list-is) h))
 
     -- the smallest is folded, n times
-    times-keep : (n : ℕ) (c : Core) (l : List A) → P c l → P (foldTimes f fold n c l .core) (foldTimes f fold n c l .kept)
+    pub times-keep : (n : ℕ) (c : Core) (l : List A) → P c l → P (foldTimes f fold n c l .core) (foldTimes f fold n c l .kept)
     unfolding foldTimes
     times-keep zero c l h = h
     times-keep (suc n) c l h = times-keep n (foldSmallest f fold c l .core) (foldSmallest f fold c l .kept) (smallest-keeps c l h)

@@ -9,6 +9,7 @@
 --     Lists, Tests, Shape                  rising lists; the tests of validity as facts, and back
 --     Selected .. Finished, FixedPoint     a finished set is valid but for its span; a valid set is a fixed point of finishing
 --     StepShape .. HullShape, Held         every operation keeps what a run holds
+--     Narrower                             finishing widens no span, so that no reduction is refused with 10
 --     Accepted, ByKind, Sound, Answers     what an accepted field passed and leaves; the invariant of a run; what a kind answers
 --     Parts, Covers, Alike                 points by parts; when a set covers another, when both have the same points
 --     CollectCovers .. FinishCovers        every stage of finishing keeps every point
@@ -56,6 +57,7 @@ pub mod Union
 pub mod SumShape
 pub mod HullShape
 pub mod Held
+pub mod Narrower
 pub mod Accepted
 pub mod ByKind
 pub mod Sound

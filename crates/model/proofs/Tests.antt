@@ -1,10 +1,12 @@
 -- Tests by Bool as facts, and back: `||`, `&&`, `any`, `all`, `rises`, and the first cause of a list.
-use mathlib.Core.Path.{_≡_, refl, sym}
-use mathlib.Core.List.{List, [], _∷_}
+use mathlib.Core.Path.{_≡_, refl, sym, _∙_, ap}
+use mathlib.Core.List.{List, [], _∷_, _++_}
 use mathlib.Core.Bool.{Bool, true, false, cond, _&&_, _||_, true≢false}
-use mathlib.Core.Option.{none, some, Option·none-ne-some}
+use mathlib.Core.Option.{none, some, Option·none-ne-some, Option·getD}
 use Prim.Native.Nat.{ℕ, zero, suc, _<_}
 use native.Mathlib.Omega.{arith}
+use borrow.Author.Tests.{eq-eqb, eqb-false}
+use lib.Dec.{eqb}
 use Rattle.whole.specs.Tab.{tab, any, all}
 use Rattle.rational.specs.Sum as Sum
 use Rattle.rational.specs.Sum.{All, more}
@@ -96,3 +98,31 @@ no-cause (c ∷ cs) e = go (c .holds) refl e (no-cause cs) where
       → All (λ c. c .holds ≡ false) (c ∷ cs)
   go true p q ih = absurd (Option·none-ne-some _ (sym q))
   go false p q ih = more p (ih q)
+
+-- a number that no cause has that holds isn't the answer
+pub not-answered : (n : ℕ) (cs : List Cause) → any (λ c. eqb (c .number) n && c .holds) cs ≡ false → firstOf cs ≡ some n → ⊥
+unfolding firstOf any
+not-answered n [] none-holds e = Option·none-ne-some n e
+not-answered n (c ∷ cs) none-holds e =
+    let h = or-false (eqb (c .number) n && c .holds) (any (λ c. eqb (c .number) n && c .holds) cs) none-holds in
+    go (c .holds) refl (h .0) e (not-answered n cs (h .1))
+  where
+    go : (b : Bool) → c .holds ≡ b → eqb (c .number) n && c .holds ≡ false → cond b (some (c .number)) (firstOf cs) ≡ some n
+        → (firstOf cs ≡ some n → ⊥) → ⊥
+    go true p h e rest = true≢false (sym (true-and (eq-eqb (c .number) n (ap (λ o. Option·getD o 0) e)) p) ∙ h)
+    go false p h e rest = rest e
+
+-- the causes before the first with the number that is the answer don't hold
+pub passed-before : (n : ℕ) (cs ds : List Cause) → any (λ c. eqb (c .number) n) cs ≡ false → firstOf (cs ++ ds) ≡ some n
+    → All (λ c. c .holds ≡ false) cs × (firstOf ds ≡ some n)
+unfolding firstOf any
+passed-before n [] ds other e = (Sum.none, e)
+passed-before n (c ∷ cs) ds other e =
+    let h = or-false (eqb (c .number) n) (any (λ c. eqb (c .number) n) cs) other in
+    go (c .holds) refl (eqb-false (c .number) n (h .0)) e (passed-before n cs ds (h .1))
+  where
+    go : (b : Bool) → c .holds ≡ b → (c .number ≡ n → ⊥) → cond b (some (c .number)) (firstOf (cs ++ ds)) ≡ some n
+        → (firstOf (cs ++ ds) ≡ some n → All (λ c. c .holds ≡ false) cs × (firstOf ds ≡ some n))
+        → All (λ c. c .holds ≡ false) (c ∷ cs) × (firstOf ds ≡ some n)
+    go true p other e rest = absurd (other (ap (λ o. Option·getD o 0) e))
+    go false p other e rest = (more p (rest e .0), rest e .1)
