@@ -104,11 +104,12 @@ fn split_smallest<T>(items: Vec<T>, limit: usize, size: impl Fn(&T) -> i128) -> 
     (items_of(small), items_of(rest))
 }
 
-/// Replaces a term by an interval that holds it (document 01: a fold).
+/// Replaces a term by an interval that holds it (document 01: a fold). An even one lies between 0 and g: the centre moves
+/// by g/2 rounded toward zero (document 02, A.3), and the radius takes in the rest.
 pub fn fold_term(term: &Term, centre: &mut [i128], radii: &mut [i128]) {
     for (i, g) in term.coefficients.iter().enumerate() {
         if term.is_even() {
-            centre[i] += g.div_euclid(2);
+            centre[i] += g / 2;
             radii[i] += (g.abs() + 1) / 2;
         } else {
             radii[i] += g.abs();

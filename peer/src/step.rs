@@ -1,5 +1,7 @@
 //! The polynomial step x' = c + Ax + Q(x,x), entries of A and Q in 1/4096, each known exactly or within a half-width.
 
+use std::cmp::Ordering;
+
 use crate::finish::{finish, Finished, FULL};
 use crate::set::{Set, Term};
 
@@ -121,9 +123,16 @@ impl Step {
     }
 }
 
-/// v in 1/16,777,216, to the nearest whole number, halves upwards.
+/// v in 1/16,777,216, to the nearest whole number; an exact half to the even one of its two neighbours (document 02,
+/// A.3).
 pub fn round(v: i128) -> i128 {
-    (v + ROUND / 2).div_euclid(ROUND)
+    let (below, rest) = (v.div_euclid(ROUND), v.rem_euclid(ROUND));
+    match rest.cmp(&(ROUND / 2)) {
+        Ordering::Less => below,
+        Ordering::Greater => below + 1,
+        Ordering::Equal if below % 2 == 0 => below,
+        Ordering::Equal => below + 1,
+    }
 }
 
 /// Whether `round` changes v.

@@ -4,10 +4,9 @@ use super::faults::{body_of, break_count, break_length, break_rule, break_tag, o
 use super::plain::{plain_set, unchanged, zero_ranged, zero_step};
 use super::valid::{next_field, prefix, Builder, MIXED};
 use crate::field::Field;
-use crate::finish::Limits;
 use crate::random::Random;
 use crate::run::{State, MAX_DISTURBANCE, MAX_FIELDS};
-use crate::set::{Set, Term, MAX_FACTORS, SPAN_LIMIT};
+use crate::set::{Set, MAX_FACTORS, SPAN_LIMIT};
 use crate::step::{CONSTANT_LIMIT, ENTRY_LIMIT, UNIT};
 
 /// A file that a run refuses with this number.
@@ -156,8 +155,7 @@ fn too_many_factors(random: &mut Random) -> (Field, Field) {
 }
 
 /// The current set reaches 1 and is moved or widened by the whole span, where a half-width may add the last unit, or a
-/// fold or a hull's rounding adds to the whole span; or a disturbance after a valid run takes one more than the room
-/// that is left.
+/// hull's rounding adds to the whole span; or a disturbance after a valid run takes one more than the room that is left.
 fn too_wide_result(random: &mut Random) -> Vec<u8> {
     let fields = random.below(9);
     let Builder { bytes, state } = prefix(random, &MIXED, fields);
@@ -170,7 +168,7 @@ fn too_wide_result(random: &mut Random) -> Vec<u8> {
     let mut start = plain_set(1, 1, 1, 0);
     let mut wide = plain_set(1, 0, 0, 0);
     wide.radii[0] = SPAN_LIMIT;
-    let field = match random.below(8) {
+    let field = match random.below(7) {
         0 => {
             let mut step = zero_step(1, 1);
             step.constant[0] = *random.pick(&[CONSTANT_LIMIT, -CONSTANT_LIMIT]);
@@ -190,15 +188,10 @@ fn too_wide_result(random: &mut Random) -> Vec<u8> {
             }
             Field::Ranged(ranged)
         }
-        6 => {
-            start.terms[0].coefficients[0] = SPAN_LIMIT - 1;
+        _ => {
+            start.terms[0].coefficients[0] = *random.pick(&[SPAN_LIMIT - 1, 1 - SPAN_LIMIT]);
             start.centre[0] = random.between(-1, 1);
             Field::Hull(start.clone())
-        }
-        _ => {
-            start.terms[0] = Term { exponents: vec![2], coefficients: vec![-3] };
-            start.centre[0] = 3 - SPAN_LIMIT;
-            Field::Reduce(Limits { terms: 0, generators: 0 })
         }
     };
     [Field::Start(start), field].iter().flat_map(Field::encode).collect()

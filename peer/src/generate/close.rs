@@ -9,7 +9,7 @@ use crate::field::Field;
 use crate::finish::Limits;
 use crate::random::Random;
 use crate::set::{Set, Term, MAX_GENERATORS, MAX_TERMS, SPAN_LIMIT};
-use crate::step::{Step, UNIT};
+use crate::step::{Ranged, Step, UNIT};
 
 /// Terms and generators of equal sizes or nearly so, as the weights have it, in reductions and full sums.
 pub fn ties(random: &mut Random) -> Vec<u8> {
@@ -30,36 +30,48 @@ pub fn ties(random: &mut Random) -> Vec<u8> {
     builder.bytes
 }
 
-/// Steps among powers of two, so that many numbers are exact halves or one beside.
+/// Steps, some of them ranged, among powers of two and small odd numbers, so that many numbers are exact halves or one
+/// beside.
 pub fn halves(random: &mut Random) -> Vec<u8> {
     let n = 1 + random.below(3);
-    let mut builder = start(Field::Start(body(random, n, 2, 4, 2, power_of_two)));
+    let mut builder = start(Field::Start(body(random, n, 2, 4, 2, power_of_two_or_odd)));
     for _ in 0..4 + random.below(8) {
         let set = builder.set();
         let field = match random.below(4) {
             0 => Field::Check(region(random, &set)),
-            1 if set.identifiers.len() < 9 => Field::Independent(body(random, n, 2, 2, 1, power_of_two)),
-            _ => Field::Step(Step {
-                constant: numbers(random, n, |r| r.between(-2, 2)),
-                matrix: (0..n).map(|_| numbers(random, n, sparse)).collect(),
-                forms: (0..n).map(|_| (0..n).map(|_| numbers(random, n, sparse)).collect()).collect(),
-            }),
+            1 if set.identifiers.len() < 9 => Field::Independent(body(random, n, 2, 2, 1, power_of_two_or_odd)),
+            _ => {
+                let step = Step {
+                    constant: numbers(random, n, |r| r.between(-2, 2)),
+                    matrix: (0..n).map(|_| numbers(random, n, sparse)).collect(),
+                    forms: (0..n).map(|_| (0..n).map(|_| numbers(random, n, sparse)).collect()).collect(),
+                };
+                let mut half_widths = step.exactly();
+                half_widths.matrix.iter_mut().flatten().for_each(|width| *width = sparse(random).abs());
+                if random.once_in(3) {
+                    Field::Ranged(Ranged { step, half_widths })
+                } else {
+                    Field::Step(step)
+                }
+            }
         };
         builder.add(&field);
     }
     builder.bytes
 }
 
-/// Even powers with odd, mostly negative coefficients that are folded in a set as wide as can be, so that some
-/// results are too wide by one.
+/// Even powers with odd coefficients, mostly of one sign, that are folded in a set as wide as can be: a fold that widened
+/// it by one would be refused.
 pub fn odd_folds(random: &mut Random) -> Vec<u8> {
     let n = 1 + random.below(3);
-    let odd = |random: &mut Random| if random.once_in(4) { 2 * random.between(0, 3) + 1 } else { -3 };
+    let most = *random.pick(&[3, -3]);
+    let odd = |random: &mut Random| if random.once_in(4) { 2 * random.between(-4, 3) + 1 } else { most };
     let mut set = body(random, n, 2, 6, 1, odd);
     for term in &mut set.terms {
         term.exponents.iter_mut().for_each(|e| *e = if random.once_in(12) { *e } else { 2 * *e });
     }
     set.terms.sort_by(|s, t| s.exponents.cmp(&t.exponents));
+    set.terms.dedup_by(|s, t| s.exponents == t.exponents);
     let (mut wide, mut step) = (set.clone(), exchange(random, n));
     for i in 0..n {
         let room = SPAN_LIMIT - wide.span(i) - random.between(0, 3);
@@ -71,12 +83,18 @@ pub fn odd_folds(random: &mut Random) -> Vec<u8> {
     step.forms[0][0][0] = UNIT;
     let fold = Field::Reduce(Limits { terms: random.below(4), generators: random.below(2) });
     let high = Set { terms: set.terms.iter().map(|t| raised(t, 32)).collect(), ..set.clone() };
-    let fields = match random.below(4) {
-        0 => vec![Field::Start(set.clone()), fold, Field::Check(region(random, &set))],
-        1 => vec![Field::Start(high), Field::Step(step), fold],
-        _ => vec![Field::Start(wide), fold, Field::Step(exchange(random, n))],
+    let (first, then) = match random.below(4) {
+        0 => (set, [fold, Field::Step(exchange(random, n))]),
+        1 => (high, [Field::Step(step), fold]),
+        _ => (wide, [fold, Field::Step(exchange(random, n))]),
     };
-    fields.iter().flat_map(Field::encode).collect()
+    let mut builder = start(Field::Start(first));
+    for field in &then {
+        builder.add(field);
+    }
+    let check = Field::Check(region(random, &builder.set()));
+    builder.add(&check);
+    builder.bytes
 }
 
 /// Hulls of odd numbers, each half of which is rounded. Some runs begin with a set's hull with itself: of even numbers
@@ -136,9 +154,9 @@ fn exchange(random: &mut Random, n: usize) -> Step {
     step
 }
 
-/// One of which two and an entry, or one and two entries, often make 8,388,608.
-fn power_of_two(random: &mut Random) -> i128 {
-    *random.pick(&[0, 1, 1, 64, 2048, 4096]) * random.between(-1, 1)
+/// One of which two and an entry, or one and two entries, often make 8,388,608 or an odd multiple of it.
+fn power_of_two_or_odd(random: &mut Random) -> i128 {
+    *random.pick(&[0, 1, 1, 3, 5, 64, 2048, 4096]) * random.between(-1, 1)
 }
 
 fn sparse(random: &mut Random) -> i128 {

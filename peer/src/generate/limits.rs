@@ -92,9 +92,9 @@ pub fn number(random: &mut Random, seed: u64) -> Vec<u8> {
             vec![Field::Start(current), given(random, body)]
         }
         18 => {
-            // With itself: a coefficient of 1 is halved and rounded four times, which widens the set by 4.
+            // With itself: a coefficient of 1 is halved and rounded to 0 four times, for which the radius takes 2.
             let part = if random.once_in(2) { &mut body.radii } else { &mut body.centre };
-            part.fill(SPAN_LIMIT + by - 4 - 2);
+            part.fill(SPAN_LIMIT + by - 2 - 1);
             vec![Field::Start(body.clone()), Field::Hull(body)]
         }
         19 => {

@@ -28,7 +28,7 @@ enum Make {
 }
 
 /// The kinds whose files a run accepts to the end.
-pub static VALID: [Kind; 18] = [
+pub static VALID: [Kind; 19] = [
     kind("mixed", "valid: fields of all kinds", |r| valid::run(r, &valid::MIXED)),
     kind("sharp", "valid: terms alone, no generators or radii", |r| valid::run(r, &valid::SHARP)),
     kind("terms", "valid: steps on many terms, folding by size", |r| valid::run(r, &valid::TERMS)),
@@ -44,7 +44,8 @@ pub static VALID: [Kind; 18] = [
     kind("full-ranges", "valid: such a step with every entry and half-width, on the fullest set", ranges::full_ranges),
     kind("wide", "valid: spans near 1,048,576", |r| valid::run(r, &valid::WIDE)),
     kind("ties", "valid: reductions among equal sizes, where weights and places decide", close::ties),
-    kind("halves", "valid: steps among powers of two, where many numbers are exact halves", close::halves),
+    kind("halves", "valid: steps among powers of two and odd numbers, where many are exact halves", close::halves),
+    kind("folds", "valid: odd folds in sets as wide as can be, which they don't widen", close::odd_folds),
     long("long", "valid: 4,097 fields of all kinds, the most that a run may have", |r| valid::run(r, &valid::LONG)),
     long("plain-4097", "valid: as many fields that change little", |r| plain::little_changed(r, MAX_FIELDS)),
 ];
@@ -64,14 +65,13 @@ pub static REFUSED: [Kind; 11] = [
     kind("refusal-12", "a field after the last that may follow", |r| aimed::refused(r, 12)),
 ];
 
-pub static OTHERS: [Kind; 11] = [
+pub static OTHERS: [Kind; 10] = [
     long("plain-4098", "one field more than a run may have", |r| plain::little_changed(r, MAX_FIELDS + 1)),
     kind("order", "several causes of refusal in one field", aimed::several_causes),
     in_turn("limits", "a number at its limit, one below or one above", limits::number),
     in_turn("counts", "a count at its limit, one below or one above", limits::count),
     kind("fullest", "sets and a step with all counts at their limits", limits::fullest),
     kind("odd-ranges", "a ranged step with odd half-widths, another length or dimension", ranges::odd_ranges),
-    kind("folds", "odd folds in sets as wide as can be", close::odd_folds),
     kind("lengths", "a field that states up to 65,535 bytes, which are there or not quite", damage::long_field),
     kind("cut", "a valid file cut somewhere", damage::cut),
     kind("damaged", "a valid file with bytes changed, lost or added", damage::damaged),

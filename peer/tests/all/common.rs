@@ -1,7 +1,11 @@
-//! What several test files use: run files from plans and from bytes.
+//! What several test files use: run files from plans and from bytes, what a step rounds, and mirror images.
 
+use peer::bounds::Halfspace;
+use peer::field::Field;
 use peer::plan::encode;
-use peer::run::{Accepted, Run};
+use peer::run::{Accepted, Outcome, Run};
+use peer::set::{Set, Term};
+use peer::step::{dot, Ranged, Step, ROUND, UNIT};
 use peer::text::motion;
 
 /// A plan's run file.
@@ -20,6 +24,74 @@ pub fn last_line(bytes: &[u8]) -> String {
 /// The fields of a plan, all of which a run accepts.
 pub fn accepted(plan: &str) -> Vec<Accepted> {
     Run::new(&run_file(plan)).map(|item| item.expect("accepted")).collect()
+}
+
+/// Every number that a step of this set rounds, in 1/16,777,216: of the centre, of terms and generators, of pairs.
+pub fn unrounded(step: &Step, set: &Set) -> Vec<i128> {
+    let k = &set.centre;
+    let terms: Vec<&Vec<i128>> = set.terms.iter().map(|term| &term.coefficients).collect();
+    let mut numbers = Vec::new();
+    for ((c, row), form) in step.constant.iter().zip(&step.matrix).zip(&step.forms) {
+        let q = |x: &[i128], y: &[i128]| form.iter().zip(x).map(|(row, x)| x * dot(row, y)).sum::<i128>();
+        numbers.push(ROUND * c + UNIT * dot(row, k) + q(k, k));
+        numbers.extend(terms.iter().copied().chain(&set.generators).map(|g| UNIT * dot(row, g) + q(k, g) + q(g, k)));
+        for (place, g) in terms.iter().enumerate() {
+            numbers.push(q(g, g));
+            numbers.extend(terms[place + 1..].iter().map(|h| q(g, h) + q(h, g)));
+        }
+    }
+    numbers
+}
+
+/// The field with every centre, term, generator, c, Q and halfspace normal negated.
+pub fn mirrored(field: &Field) -> Field {
+    let mirrored_step = |step: &Step| Step {
+        constant: negated(&step.constant),
+        matrix: step.matrix.clone(),
+        forms: step.forms.iter().map(|form| form.iter().map(|row| negated(row)).collect()).collect(),
+    };
+    match field {
+        Field::Start(body) => Field::Start(mirrored_set(body)),
+        Field::Independent(body) => Field::Independent(mirrored_set(body)),
+        Field::Tied(body) => Field::Tied(mirrored_set(body)),
+        Field::Hull(body) => Field::Hull(mirrored_set(body)),
+        Field::Step(step) => Field::Step(mirrored_step(step)),
+        Field::Ranged(Ranged { step, half_widths }) => {
+            Field::Ranged(Ranged { step: mirrored_step(step), half_widths: half_widths.clone() })
+        }
+        Field::Check(region) => {
+            let mirrored = |h: &Halfspace| Halfspace { normal: negated(&h.normal), bound: h.bound };
+            Field::Check(region.iter().map(mirrored).collect())
+        }
+        Field::Disturbance(_) | Field::Reduce(_) => field.clone(),
+    }
+}
+
+/// That each field, set and box of the one run is the mirror image of the other's, and each verdict the same.
+pub fn assert_mirrored(run: &[Accepted], other: &[Accepted]) {
+    assert_eq!(run.len(), other.len());
+    for (one, other) in run.iter().zip(other) {
+        let outcome = match &one.outcome {
+            Outcome::Box(ends) => Outcome::Box(ends.iter().map(|(low, high)| (-high, -low)).collect()),
+            Outcome::Verdict { safe } => Outcome::Verdict { safe: *safe },
+        };
+        assert_eq!((mirrored(&one.field), outcome), (other.field.clone(), other.outcome.clone()));
+        assert_eq!((mirrored_set(&one.set), one.mark), (other.set.clone(), other.mark));
+    }
+}
+
+fn mirrored_set(set: &Set) -> Set {
+    let mirrored = |term: &Term| Term { coefficients: negated(&term.coefficients), ..term.clone() };
+    Set {
+        centre: negated(&set.centre),
+        terms: set.terms.iter().map(mirrored).collect(),
+        generators: set.generators.iter().map(|generator| negated(generator)).collect(),
+        ..set.clone()
+    }
+}
+
+fn negated(numbers: &[i128]) -> Vec<i128> {
+    numbers.iter().map(|v| -v).collect()
 }
 
 /// A set of one coordinate with `count` factors from `first` on, each in a term of its own.

@@ -1,4 +1,4 @@
-//! Document 01's listing, its variants, its table and the cases marked 'run only'.
+//! Document 01's listing, its variants, its table as document 02's A.3 has it, and the cases marked 'run only'.
 
 use crate::common::{factors, last_line, run_file};
 use peer::bounds::bounding_box;
@@ -52,7 +52,8 @@ fn unindented_lines_of_sets_are_those_of_motion() {
 
 #[test]
 fn rounding() {
-    assert_eq!([8_388_608, 8_388_607, -8_388_608, -8_388_609].map(round), [1, 0, 0, -1]);
+    assert_eq!([8_388_608, 8_388_607, -8_388_608, -8_388_609].map(round), [0, 0, 0, -1]);
+    assert_eq!([25_165_824, -25_165_824].map(round), [2, -2]);
 }
 
 fn term(exponents: &[u32], coefficients: &[i128]) -> Term {
@@ -67,17 +68,17 @@ fn folds() {
         (centre[0], radii[0])
     };
     assert_eq!(folded(3), (1, 2));
-    assert_eq!(folded(-3), (-2, 2));
+    assert_eq!(folded(-3), (-1, 2));
     let (mut centre, mut radii) = ([0], [0]);
     fold_term(&term(&[1, 1], &[-3]), &mut centre, &mut radii);
     assert_eq!((centre, radii), ([0], [3]), "a product of two odd powers is not even");
 }
 
 #[test]
-fn half_a_unit_times_one_grain_keeps_the_term_and_widens_by_one() {
+fn half_a_unit_times_one_grain_leaves_radius_one_alone() {
     let bytes = run_file("start 1\nidentifiers 1\nterm 1 : 1\nstep 1 from 1\nA 2048");
-    let after = "1 2 -2 2\n  identifiers 1\n  centre 0\n  term 1 : 1\n  radii 1\n  mark 65536\nend 1\n";
-    assert!(sets(&bytes).ends_with(after));
+    let after = "1 2 -1 1\n  identifiers\n  centre 0\n  radii 1\n  mark 65536\nend 1\n";
+    assert!(sets(&bytes).ends_with(after), "{}", sets(&bytes));
 }
 
 #[test]
@@ -139,10 +140,15 @@ fn finishing_drops_the_smallest_of_equals_the_later() {
     assert_eq!(finish(set.clone(), FULL).set, set, "a valid set is its own finished form");
 }
 
+/// -3a² moves the centre by -1 and adds 2 to the radius: 1048574 and 2 are as wide as 1048573 and 3 were.
 #[test]
-fn a_fold_can_widen_the_span_by_one() {
-    let bytes = run_file("start 1\nidentifiers 1\ncentre -1048573\nterm 2 : -3\nreduce 0 0");
-    assert_eq!(last_line(&bytes), "1 refused 10 24");
+fn a_fold_leaves_the_widest_set_as_wide_as_it_was() {
+    let reduced = |centre: &str, g: &str| {
+        let plan = format!("start 1\nidentifiers 1\ncentre {centre}\nterm 2 : {g}\nreduce 0 0");
+        motion(&run_file(&plan))
+    };
+    assert_eq!(reduced("-1048573", "-3"), "0 1 -1048576 -1048573\n1 6 -1048576 -1048572\nend 1\n");
+    assert_eq!(reduced("1048573", "3"), "0 1 1048573 1048576\n1 6 1048572 1048576\nend 1\n");
 }
 
 #[test]

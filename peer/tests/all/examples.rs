@@ -2,11 +2,12 @@
 
 use std::path::{Path, PathBuf};
 
-use crate::common::run_file;
+use crate::common::{assert_mirrored, run_file, unrounded};
 use peer::field::Field;
 use peer::follow::follow;
-use peer::run::{Outcome, Run};
-use peer::step::Ranged;
+use peer::run::{Accepted, Outcome, Run};
+use peer::set::Term;
+use peer::step::{Ranged, ROUND};
 use peer::text::motion;
 
 fn folder() -> PathBuf {
@@ -30,7 +31,7 @@ fn names() -> Vec<String> {
 #[test]
 fn run_files_are_their_plans_and_print_what_is_expected() {
     let names = names();
-    assert_eq!(names.len(), 8, "{names:?}");
+    assert_eq!(names.len(), 10, "{names:?}");
     for name in names {
         let run = bytes(&format!("{name}.run"));
         assert!(run_file(&text(&format!("{name}.plan"))) == run, "{name}");
@@ -94,6 +95,35 @@ fn suspension_is_safe_within_its_range_and_not_shown_to_be_within_twice_that() {
     let twice = plan.replace("A+- 59 19 / 80 38", "A+- 118 38 / 160 76").replace(": 1 0 / 0 0", ": 2 0 / 0 0");
     assert!(twice != plan);
     assert_eq!(tally(&run_file(&twice)).2, [vec![false], vec![true; 7]].concat());
+}
+
+/// What a rule that prefers one direction would not mirror is there: exact halves with an even and with an odd neighbour
+/// below, and even powers with odd coefficients below 0 that a reduction folds.
+#[test]
+fn right_is_the_mirror_image_of_left() {
+    let run = |name: &str| Run::new(&bytes(name)).map(|item| item.expect("accepted")).collect::<Vec<Accepted>>();
+    let (left, right) = (run("left.run"), run("right.run"));
+    assert_mirrored(&left, &right);
+    assert_eq!(tally(&bytes("left.run")), (4, 2, vec![true; 2]));
+
+    let (mut below_even, mut below_odd, mut odd_folds) = (0, 0, 0);
+    for pair in left.windows(2) {
+        let (set, after) = (&pair[0].set, &pair[1].set);
+        match &pair[1].field {
+            Field::Step(step) | Field::Ranged(Ranged { step, .. }) => {
+                let halves = unrounded(step, set).into_iter().filter(|v| v.rem_euclid(ROUND) == ROUND / 2);
+                let (odd, even): (Vec<i128>, Vec<i128>) = halves.partition(|v| v.div_euclid(ROUND) % 2 != 0);
+                (below_even, below_odd) = (below_even + even.len(), below_odd + odd.len());
+            }
+            Field::Reduce(_) => {
+                let stays = |term: &Term| after.terms.iter().any(|kept| kept.coefficients == term.coefficients);
+                let folded = set.terms.iter().filter(|term| term.is_even() && !stays(term));
+                odd_folds += folded.filter(|term| term.coefficients.iter().any(|g| *g < 0 && g % 2 != 0)).count();
+            }
+            _ => {}
+        }
+    }
+    assert!(below_even > 1 && below_odd > 1 && odd_folds > 1, "{below_even} {below_odd} {odd_folds}");
 }
 
 /// The linear part x'' = -share·x - 1.397·x' solved over one sample, the unit of time, by the exponential's series;

@@ -147,7 +147,7 @@ fn a_hull_with_the_smaller_independent_part_is_caught() {
     assert_eq!(wrong_hull(plan, Manner::Low, |set| set.radii[0] = 3), Some((1, Escape::Set)));
 }
 
-/// a/2 is taken for a, twice: a motion at 1 is 1 away from 1 + 1.
+/// a/2 is taken for 0, twice: a motion at 1 is 1 away from all that is left.
 #[test]
 fn a_hull_whose_roundings_are_not_counted_is_caught() {
     let plan = "start 1\nidentifiers 1\nterm 1 : 1\nhull 1";

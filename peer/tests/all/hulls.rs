@@ -28,12 +28,12 @@ fn a_point_and_a_line() {
 }
 
 /// 1 + 3a and 2 - 5a. The centre 3/2 goes to 2, the difference -1/2 to 0; a has 3/2 and -5/2, which go to 2 and -2 and
-/// cancel; with the new factor it has 3/2 and 5/2, which go to 2 and 3. All six are inexact.
+/// cancel; with the new factor it has 3/2 and 5/2, which both go to 2. All six are inexact.
 #[test]
 fn each_half_rounds_alone_and_counts_even_where_nothing_is_left_of_it() {
     let set = after("start 1\nidentifiers 1\ncentre 1\nterm 1 : 3\nhull 1\nidentifiers 1\ncentre 2\nterm 1 : -5");
-    let parts = "identifiers 1 65536\n  centre 2\n  term 1 1 : 5\n  radii 3\n";
-    assert_eq!(set, format!("1 8 -6 10\n  {parts}  mark 65537\n"));
+    let parts = "identifiers 1 65536\n  centre 2\n  term 1 1 : 4\n  radii 3\n";
+    assert_eq!(set, format!("1 8 -5 9\n  {parts}  mark 65537\n"));
 }
 
 /// Odd in the first coordinate only: 3·a there rounds twice, the centres' 5 and -3 in the second not at all.
@@ -111,16 +111,19 @@ fn the_union_and_the_new_factor_are_at_most_12() {
     assert_eq!(hull(12, 0, 0), "1 refused 9 here", "the new factor alone is too many");
 }
 
-/// Halves of even numbers leave the span as it was; of an odd one they widen it: 1048575·a becomes 1048576·a + a·f with
-/// radius 2.
+/// Halves of even numbers leave the span as it was; of an odd one they widen it. 1048575·a has 524287 1/2, which goes
+/// to 524288, four times: 1048576·a, nothing with the new factor, and radius 2.
 #[test]
 fn rounding_alone_can_make_the_result_too_wide() {
-    let with_itself = |g: i128| {
-        let body = format!("1\nidentifiers 1\nterm 1 : {g}\n");
+    let with_itself = |centre: i128, g: i128| {
+        let body = format!("1\nidentifiers 1\ncentre {centre}\nterm 1 : {g}\n");
         last_line(&run_file(&format!("start {body}hull {body}")))
     };
-    assert_eq!(with_itself(1_048_576), "end 1");
-    assert_eq!(with_itself(1_048_575), "1 refused 10 24");
-    assert_eq!(with_itself(1_048_571), "end 1", "1048572, 1 and 2 are 1048575");
-    assert_eq!(with_itself(1_048_573), "1 refused 10 24", "1048574, 1 and 2 are 1048577");
+    assert_eq!(with_itself(0, 1_048_576), "end 1");
+    for sign in [1, -1] {
+        assert_eq!(with_itself(0, sign * 1_048_575), "1 refused 10 24");
+        assert_eq!(with_itself(0, sign * 1_048_573), "end 1", "halves go to 524286: 1048572 and 2 are 1048574");
+        assert_eq!(with_itself(sign * 2, 1_048_571), "end 1", "2, 1048572 and 2 are 1048576");
+        assert_eq!(with_itself(sign * 3, 1_048_571), "1 refused 10 24", "3, 1048572 and 2 are 1048577");
+    }
 }

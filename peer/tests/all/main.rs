@@ -8,6 +8,7 @@ mod examples;
 mod following;
 mod generator;
 mod hulls;
+mod mirrors;
 mod plans;
 mod ranges;
 mod readings;
