@@ -22,6 +22,12 @@ fn examples_of_one_set() {
     show::changed(sums::reduce(sets::curved(), 0, 0));
     io::write_all(1, b"reduce to 41 terms");
     show::changed(sums::reduce(sets::curved(), 41, 0));
+    io::write_all(1, b"fold 3");
+    show::changed(sums::reduce(sets::square(0, 3), 0, 0));
+    io::write_all(1, b"fold -3");
+    show::changed(sums::reduce(sets::square(0, -3), 0, 0));
+    io::write_all(1, b"fold -3 at the widest");
+    show::changed(sums::reduce(sets::square(-1048573, -3), 0, 0));
 }
 
 fn examples_of_checks() {

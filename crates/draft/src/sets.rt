@@ -114,13 +114,21 @@ pub fn high_power() -> PolyZonotope {
     s
 }
 
-// In one coordinate: 1 - a + a².
+// In one coordinate: c + g a².
+pub fn square(c: i32, g: i32) -> PolyZonotope {
+    let mut s = line(g);
+    s.centre[0] = c;
+    s.exponents[0] = 2;
+    s
+}
+
+// In one coordinate: 3 - 3 a + 5 a².
 pub fn halves() -> PolyZonotope {
-    let mut s = line(-1);
+    let mut s = line(-3);
     s.terms = 2;
-    s.centre[0] = 1;
+    s.centre[0] = 3;
     s.exponents[12] = 2;
-    s.coefficients[6] = 1;
+    s.coefficients[6] = 5;
     s
 }
 
