@@ -17,6 +17,7 @@ use Rattle.model.specs.Valid.{badCounts, tooWide}
 use Rattle.model.specs.Body.{dimension, factors, termCount, generatorCount, radiusWords, givenSet, disturbanceWords, givenRadii}
 use Rattle.model.specs.Field.{start, Meaning, badDimension, differs, negative, ofSet}
 use Rattle.model.specs.Run.{State, body, tag, kindOf, meant, misplaced, cut, causes, refusal, accepted}
+use Rattle.model.proofs.Radii.{given-only-long}
 use Rattle.model.proofs.Tests.{or-false, no-cause, all-tab}
 use Rattle.model.proofs.Shape.{Shaped, Valid}
 
@@ -95,7 +96,7 @@ pub given-shaped : (b : List ℕ) → Shaped (givenSet b)
 unfolding givenSet
 given-shaped b = record {
   centre-long = length-tab _ _;
-  radii-long = length-map (radiusWords b) natAbs ∙ length-tab _ _;
+  radii-long = given-only-long (dimension b) _ (length-map (radiusWords b) natAbs ∙ length-tab _ _);
   rows = all-tab (termCount b) _ (λ i l. record {
     exponents-long = length-tab _ _ ∙ sym (length-tab _ _);
     coefficients-long = length-tab _ _;
@@ -112,10 +113,10 @@ unfolding givenSet
 given-factors b = length-tab _ _
 
 -- The body's set of an accepted field is valid, with identifiers of a file.
-pub given-valid : (b : List ℕ) (wrongDimension manyFactors : Bool) (result : Zonotope) (next : ℕ)
-    → Passed (ofSet b wrongDimension manyFactors result next) → Valid fileIdentifiers (givenSet b)
+pub given-valid : (b : List ℕ) (wrongDimension manyFactors : Bool) (result : Zonotope) (folds : List ℕ) (next : ℕ)
+    → Passed (ofSet b wrongDimension manyFactors result folds next) → Valid fileIdentifiers (givenSet b)
 unfolding givenSet badCounts
-given-valid b d m r n p = record {
+given-valid b d m r l n p = record {
   shaped = given-shaped b;
   counts = rw (length-tab (factors b), length-tab (termCount b), length-tab (generatorCount b)) (p .counts);
   ranges = or-false _ (any negative (radiusWords b)) (p .range) .0;

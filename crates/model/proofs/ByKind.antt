@@ -68,14 +68,14 @@ module _ (b : List ℕ) (next : ℕ) (s : Zonotope) where
   -- The set in an accepted field's body is valid, with identifiers up to 65,535.
   pub body-valid : (k : Kind) → Passed (meaning k b next s) → BodyValid k b
   unfolding meaning
-  body-valid start p = given-valid b _ _ _ _ p
+  body-valid start p = given-valid b _ _ _ _ _ p
   body-valid step p = tt
   body-valid disturbance p = tt
-  body-valid independent p = given-valid b _ _ _ _ p
-  body-valid tied p = given-valid b _ _ _ _ p
+  body-valid independent p = given-valid b _ _ _ _ _ p
+  body-valid tied p = given-valid b _ _ _ _ _ p
   body-valid reduction p = tt
   body-valid check p = tt
-  body-valid hull p = given-valid b _ _ _ _ p
+  body-valid hull p = given-valid b _ _ _ _ _ p
   body-valid rangedStep p = tt
   body-valid unknown p = tt
 

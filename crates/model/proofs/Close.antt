@@ -17,15 +17,16 @@ use Rattle.rational.specs.Near.{Near, near-refl, near-trans, near-as}
 use Rattle.rational.specs.Sum.{none}
 use Rattle.model.specs.Limits.{maxTerms, maxGenerators}
 use Rattle.model.specs.Set.{Zonotope, at, radius, termSizes, generatorSizes, independentSize}
-use Rattle.model.specs.Step.{Step, quadraticAt, slope, remainder, rawLinear, raw, inexactAt, roundedRadius, rounded}
+use Rattle.model.specs.Step.{Step, quadraticAt, slope, remainder, rawLinear, raw, inexactAt, carriedAt, roundedAt, rounded}
 use Rattle.model.specs.Step.{step}
 use Rattle.model.specs.Points.{Vector, valueAt, Point, InRange}
 use Rattle.model.specs.Motion.{image}
 use Rattle.model.specs.Precision.{StepClose}
+use Rattle.model.proofs.Radii.{radius-carried}
 use Rattle.model.proofs.FoldsNothing.{finish-exact}
 use Rattle.model.proofs.WholeForms.{ι-+ℕ, ι-*ℕ}
 use Rattle.model.proofs.RawPoint.{raw-image}
-use Rattle.model.proofs.Rounded.{round-value, near-times, unscale, ≤-whole}
+use Rattle.model.proofs.Rounded.{round-value, near-times, unscale, ≤-whole, rounded-radius}
 
 near-sym : {x v r : ℚ} → Near x v r → Near v x r
 near-sym {x} {v} n = record {
@@ -53,7 +54,7 @@ enough r u h = ≤-whole (scale * r + 8388608 * u) (scale * u + 8388608) (simp (
 pub rounded-close : (r : Zonotope) {α z : Vector} (x : Vector) → InRange α → r .generators ≡ []
     → Point r α (λ i. ι (pos scale) *ℚ x i) → Point (rounded r) α z → (i : ℕ) → i < r .dimension → radius r i ≡ 0
     → Near (z i) (x i) (ι (pos (inexactAt r i)) +ℚ ½)
-unfolding rounded roundedRadius
+unfolding rounded carriedAt roundedAt
 rounded-close r {α} {z} x w no-generators from to i h no-radius =
     unscale (ι (pos u) +ℚ ½) (near-trans (near-times (NonNeg-ι scale) found) (near-sym exact)) (enough b u small)
   where
@@ -64,7 +65,7 @@ rounded-close r {α} {z} x w no-generators from to i h no-radius =
     b = radius (rounded r) i
 
     small : b + b ≤ u + 1
-    small = let e = getD-tab (r .dimension) (roundedRadius r) 0 i h in omega arith
+    small = let e = rounded-radius r i h in omega arith
 
     none-left : length (r .generators) ≡ 0
     none-left = ap length no-generators
@@ -110,7 +111,7 @@ module _ (p : Step) (s : Zonotope) (no-generators : s .generators ≡ []) (no-ra
       (ap (map (λ g. tab (p .rows) (rawLinear p s g))) no-generators)
       (raw-image p s w [] (sym (ap length no-generators)) none
       (λ j _. near-as (near-refl (valueAt s α [] j)) refl (ap (λ m. ι (pos m)) (sym (no-radii j)))))
-      pt i h (getD-tab (p .rows) (remainder p s) 0 i h ∙ remainder-zero i)
+      pt i h (radius-carried (p .rows) (tab (p .rows) (remainder p s)) i ∙ getD-tab (p .rows) (remainder p s) 0 i h ∙ remainder-zero i)
 
 -- Closeness (demand 2): the same of a step that folds nothing
 pub step-close : StepClose

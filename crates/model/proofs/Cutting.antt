@@ -13,6 +13,7 @@ use lib.Seq.{length-take-le, take-all, take-append-le, drop-append-le, take-nil,
 use Rattle.whole.specs.Tests.{or-left, or-right}
 use Rattle.model.specs.Bytes.{number}
 use Rattle.model.specs.Run.{State, begin, tag, body, after, answer, meant, _if_, firstOf, ofBody, causes, refusal, misplaced, cut}
+use Rattle.model.specs.Run.{acceptedBy, refusedAt}
 use Rattle.model.specs.Run.{fieldLength, firstField, fields, fieldsWithin}
 use Rattle.model.specs.Limits.{lastField}
 use Rattle.model.specs.Text.{lineOf, closing, linesFrom, printed}
@@ -117,8 +118,8 @@ unfolding after
 goes-on st f = go (st .over) (refusal st f) refl
   where
     go : (b : Bool) (o : Option ℕ) → st .over ≡ b → (let x = cond b st (elim o [
-      | none ↦ record { set = some (meant st f .result); next = meant st f .next; count = st .count + 1; over = false }
-      | some n ↦ record { set = st .set; next = st .next; count = st .count; over = true }
+      | none ↦ acceptedBy st (meant st f)
+      | some n ↦ refusedAt st
     ]) in x .over ≡ false → x .count ≡ suc (st .count))
     go true o p e = absurd (true≢false (sym p ∙ e))
     go false none p e = omega arith
@@ -135,8 +136,8 @@ unfolding after
 empty-refused st e z = go (st .over) (refusal st []) e (no-bytes st z)
   where
     go : (b : Bool) (o : Option ℕ) → b ≡ false → o ≡ some 1 → cond b st (elim o [
-      | none ↦ record { set = some (meant st [] .result); next = meant st [] .next; count = st .count + 1; over = false }
-      | some n ↦ record { set = st .set; next = st .next; count = st .count; over = true }
+      | none ↦ acceptedBy st (meant st [])
+      | some n ↦ refusedAt st
     ]) .over ≡ true
     go true o p q = absurd (true≢false p)
     go false none p q = absurd (Option·none-ne-some 1 q)

@@ -14,7 +14,7 @@ use Rattle.model.specs.Operations.{safe}
 use Rattle.model.specs.Body.{dimension, givenHalfspaces}
 use Rattle.model.specs.Field.{Kind, start, step, disturbance, independent, tied, reduction, check, hull, rangedStep, unknown}
 use Rattle.model.specs.Field.{verdict, meaning}
-use Rattle.model.specs.Run.{State, noSet, current, tag, body, kindOf, meant, refusal, accepted, after, outcome}
+use Rattle.model.specs.Run.{State, noSet, current, tag, body, kindOf, meant, refusal, accepted, after, outcome, acceptedBy, refusedAt}
 use Rattle.model.specs.Points.{Vector, Point, InRange}
 use Rattle.model.specs.Motion.{Picks, Moment, beginning, move, valuesAfter, markAfter, follow, InBox, Unsafe, Kept}
 use Rattle.model.specs.Motion.{Always, Enclosed}
@@ -75,10 +75,9 @@ left P false none x y z h k e = let w : _≡_ {A = ℕ} 0 1 = cc in absurd (omeg
 left P false (some n) x y z h k e = k n
 
 module _ (st : State) (f : List ℕ) where
-  accepted-state : T (accepted st f)
-      → after st f ≡ record { set = some (meant st f .result); next = meant st f .next; count = st .count + 1; over = false }
+  accepted-state : T (accepted st f) → after st f ≡ acceptedBy st (meant st f)
   unfolding accepted after
-  accepted-state t = taken (st .over) (refusal st f) st _ (λ n. record { set = st .set; next = st .next; count = st .count; over = true }) t
+  accepted-state t = taken (st .over) (refusal st f) st _ (λ n. refusedAt st) t
 
   accepted-outcome : T (accepted st f) → (place : ℕ) → outcome place st f ≡ meant st f .outcome
   unfolding accepted outcome

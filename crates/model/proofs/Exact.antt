@@ -20,7 +20,7 @@ use Rattle.model.specs.Limits.{maxTerms, maxGenerators}
 use Rattle.model.specs.Operations.{joined, tiedSum, renumbered, independentSum, disturb}
 use Rattle.model.specs.Points.{Vector, valueAt, Point}
 use Rattle.model.specs.Precision.{FoldsNothing, Split, TiedExact, IndependentExact, Moved, DisturbedExact}
-use Rattle.model.proofs.Vectors.{plusℕ-at}
+use Rattle.model.proofs.Radii.{radius-plus, radius-disturbed}
 use Rattle.model.proofs.FoldCovers.{cut}
 use Rattle.model.proofs.FoldsNothing.{finish-exact}
 use Rattle.model.proofs.Shares.{firstShare, secondShare, first-near, second-near, shares-sum}
@@ -47,7 +47,7 @@ module _ {s u : Zonotope} (rising : rises ltb (s .identifiers) ≡ true) (dimens
       let m = radius s in let n = radius u in let v = valueAt s α (c .fore) in let w = valueAt u α (c .aft) in
       let near : (i : ℕ) → i < s .dimension → Near (z i) (v i +ℚ w i) (ι (pos (m i + n i))) = λ i h. near-as (p .near i h)
       (ap (λ b. valueAt (joined s u) α b i) (c .is) ∙ joined-value s u rising α (c .fore) (c .aft) (c .fore-length) i)
-      (ap (λ r. ι (pos r)) (plusℕ-at (s .radii) (u .radii) i)) in
+      (ap (λ r. ι (pos r)) (radius-plus (s .radii) (u .radii) i)) in
       record {
         first = λ i. firstShare (m i) (n i) (v i) (w i) (z i);
         second = λ i. secondShare (m i) (n i) (v i) (w i) (z i);
@@ -107,7 +107,7 @@ unfolding disturb valueAt
 disturbed-exact r s α z = (
   λ p. let v = valueAt s α (p .numbers) in let m = radius s in let n : ℕ → ℕ = λ i. getD r i 0 in
       let near : (i : ℕ) → i < s .dimension → Near (z i) (v i +ℚ 0ℚ) (ι (pos (m i + n i))) =
-      λ i h. near-as (p .near i h) (sym (+ℚ-zero (v i))) (ap (λ k. ι (pos k)) (plusℕ-at (s .radii) r i)) in
+      λ i h. near-as (p .near i h) (sym (+ℚ-zero (v i))) (ap (λ k. ι (pos k)) (radius-disturbed (s .radii) r i)) in
       record {
         place = λ i. firstShare (m i) (n i) (v i) 0ℚ (z i);
         offset = λ i. secondShare (m i) (n i) (v i) 0ℚ (z i);

@@ -12,10 +12,11 @@ use Rattle.rational.specs.Pinned.{ι-+}
 use Rattle.rational.specs.Bounds.{Within}
 use Rattle.rational.specs.Near.{Near, near-as}
 use Rattle.rational.specs.Sum.{All, none, more, All-++}
-use Rattle.model.specs.Set.{Term, Zonotope, at}
+use Rattle.model.specs.Set.{Term, Radii, Zonotope, at, radiusOf, withFolded}
 use Rattle.model.specs.Finish.{Core, shift, growth, foldVector, foldTerm, foldGenerator, withTerms, withGenerators}
 use Rattle.model.specs.Points.{Vector, Point, InRange}
 use Rattle.model.proofs.Vectors.{plusℤ-at, plusℕ-at}
+use Rattle.model.proofs.Radii.{radius-folded}
 use Rattle.model.proofs.Parts.{Part, Ranged, termPart, generatorPart, termParts, generatorParts, termParts-++, generatorParts-++}
 use Rattle.model.proofs.Parts.{spread, near-parts, by-parts, fold-near, fold-part, monomial-within, monomial-even}
 
@@ -37,18 +38,22 @@ shift-at b v i = ap (getD (map (shift b) v) i) (sym (shift-zero b)) ∙ List·ge
 pub growth-at : (b : Bool) (v : List ℤ) (i : ℕ) → getD (map (growth b) v) i 0 ≡ growth b (at v i)
 growth-at b v i = ap (getD (map (growth b) v) i) (sym (growth-zero b)) ∙ List·getD-map (growth b) v i (pos 0)
 
-module _ (b : Bool) (v : List ℤ) (c : Core) (i : ℕ) where
+module _ (r : Radii) (b : Bool) (v : List ℤ) (c : Core) (i : ℕ) where
   folded-centre : ι (at (foldVector b v c .centre) i) ≡ ι (at (c .centre) i) +ℚ ι (shift b (at v i))
   unfolding foldVector
   folded-centre =
       ap ι (plusℤ-at (c .centre) (map (shift b) v) i ∙ ap (at (c .centre) i +ℤ_) (shift-at b v i))
       ∙ ι-+ (at (c .centre) i) (shift b (at v i))
 
-  folded-radius : ι (pos (getD (foldVector b v c .radii) i 0)) ≡ ι (pos (getD (c .radii) i 0)) +ℚ ι (pos (growth b (at v i)))
+  folded-radius : ι (pos (radiusOf (withFolded r (foldVector b v c .radii)) i))
+      ≡ ι (pos (radiusOf (withFolded r (c .radii)) i)) +ℚ ι (pos (growth b (at v i)))
   unfolding foldVector
   folded-radius =
-      ap (λ n. ι (pos n)) (plusℕ-at (c .radii) (map (growth b) v) i ∙ ap (getD (c .radii) i 0 +_) (growth-at b v i))
-      ∙ ι-+ (pos (getD (c .radii) i 0)) (pos (growth b (at v i)))
+      let before = radius-folded r (c .radii) i in
+      let grown = plusℕ-at (c .radii) (map (growth b) v) i in
+      let more = growth-at b v i in
+      ap (λ n. ι (pos n)) (radius-folded r (foldVector b v c .radii) i ∙ omega arith)
+      ∙ ι-+ (pos (radiusOf (withFolded r (c .radii)) i)) (pos (growth b (at v i)))
 
 -- ---- one part is folded
 -- the set with this core and these parts
@@ -59,7 +64,7 @@ withParts s c ts gs = record {
   centre = c .centre;
   terms = ts;
   generators = gs;
-  radii = c .radii;
+  radii = withFolded (s .radii) (c .radii);
 }
 
 -- where q is folded and the other parts k and l are left, a point stays a point
@@ -68,11 +73,11 @@ part-folded : (s : Zonotope) (c : Core) {ts us : List Term} {gs hs : List (List 
     → (bs : List ℚ) → length bs ≡ length hs → All (λ b. Within b 1ℚ) bs → termParts α (s .identifiers) us ++ generatorParts hs bs ≡ k ++ l
     → Point (withParts s (foldVector (q .square) (q .vector) c) us hs) α x
 part-folded s c {α = α} {x = x} p q r k l e bs n w f = by-parts bs n w (λ i h.
-    let m : Near (x i) (ι (at (c .centre) i) +ℚ spread (k ++ (q ∷ l)) i) (ι (pos (getD (c .radii) i 0))) =
+    let m : Near (x i) (ι (at (c .centre) i) +ℚ spread (k ++ (q ∷ l)) i) (ι (pos (radiusOf (withFolded (s .radii) (c .radii)) i))) =
     near-as (near-parts p i h) (ap (λ ps. ι (at (c .centre) i) +ℚ spread ps i) e) refl in
     near-as (fold-part (ι (at (c .centre) i)) i k l q (fold-near r i) m)
-    (ap₂ (λ z ps. z +ℚ spread ps i) (sym (folded-centre (q .square) (q .vector) c i)) (sym f))
-    (sym (folded-radius (q .square) (q .vector) c i)))
+    (ap₂ (λ z ps. z +ℚ spread ps i) (sym (folded-centre (s .radii) (q .square) (q .vector) c i)) (sym f))
+    (sym (folded-radius (s .radii) (q .square) (q .vector) c i)))
 
 -- ---- numbers in [-1,1] cut in two
 pub record Cut (n m : ℕ) (bs : List ℚ) : Type 0 where

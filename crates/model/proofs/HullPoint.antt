@@ -31,6 +31,7 @@ use Rattle.model.specs.Hull.{halved, blend, opposite, larger, blended, h
 use Rattle.model.specs.Step.{rounded}
 use Rattle.model.specs.Points.{Vector, monomial, termsAt, generatorsAt, valueAt, Point, InRange}
 use Rattle.model.proofs.Vectors.{at-map}
+use Rattle.model.proofs.Radii.{radius-carried}
 use Rattle.model.proofs.Parts.{spread, generators-spread, convex}
 use Rattle.model.proofs.Ends.{generators-within}
 use Rattle.model.proofs.SumShape.{align-length}
@@ -181,7 +182,8 @@ module _ (next : ℕ) (s u : Zonotope) (γ : Vector) (rising : rises ltb (s .ide
     numbers = [];
     one-each = refl;
     in-range = Sum.none;
-    near = λ i h. near-as (near-by i h) (sym (blended-value i)) (sym (ap (λ (n : ℕ). ι (pos n)) (getD-tab (s .dimension) _ 0 i h)));
+    near = λ i h. near-as (near-by i h) (sym (blended-value i))
+        (sym (ap (λ (n : ℕ). ι (pos n)) (radius-carried (s .dimension) _ i ∙ getD-tab (s .dimension) _ 0 i h)));
   }
     where
       near-by : (i : ℕ) → i < s .dimension

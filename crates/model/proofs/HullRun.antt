@@ -13,19 +13,20 @@ use Rattle.whole.specs.Sum.{sumBy, uptoBy}
 use Rattle.whole.specs.Tab.{tab, any, all}
 use Rattle.rational.specs.Power.{even}
 use Rattle.model.specs.Limits.{firstFresh}
-use Rattle.model.specs.Set.{Term, termSizes, generatorSizes, span, longer}
+use Rattle.model.specs.Set.{Term, termSizes, generatorSizes, span, longer, radiusOf, blank, givenOnly}
 use Rattle.model.specs.Valid.{order, rises, badRange, badOrder, tooWide}
-use Rattle.model.specs.Finish.{insert, collectInto, those, shift, growth, foldVector, foldAll, size, smallest, foldSmallest}
+use Rattle.model.specs.Finish.{insert, collectInto, those, shift, growth, foldVector, foldAll, size, smallest, foldSmallest, folds}
 use Rattle.model.specs.Finish.{foldTimes, keepAt, collectTerms, dropZeroTerms, dropZeroGenerators, foldHigh, foldTerms}
 use Rattle.model.specs.Finish.{foldGenerators, dropUnused, finish}
-use Rattle.model.specs.Step.{inexactAt, roundedRadius, rounded}
+use Rattle.model.specs.Step.{inexactAt, carriedAt, roundedAt, rounded}
 use Rattle.model.specs.Operations.{insertIdentifier, union, align, joined, tiedSum, renumbered, independentSum, least, greatest}
 use Rattle.model.specs.Operations.{lowEnd, highEnd, box}
 use Rattle.model.specs.Hull.{opposite, blended, hull}
 use Rattle.model.specs.Bytes.{number, word}
 use Rattle.model.specs.Body.{givenSet}
 use Rattle.model.specs.Field.{inside, meaning}
-use Rattle.model.specs.Run.{Answer, State, begin, kindOf, firstOf, misplaced, cut, causes, refusal, after, outcome, answers, fields}
+use Rattle.model.specs.Run.{Answer, State, begin, kindOf, firstOf, misplaced, cut, causes, refusal, after, outcome, answers}
+use Rattle.model.specs.Run.{fields, withFolds}
 use Rattle.model.specs.Run.{fieldsWithin, run}
 use Rattle.model.proofs.Written.{bytes, words, field}
 
@@ -66,22 +67,23 @@ left = record {
         ∷ term (1 ∷ 0 ∷ 1 ∷ []) (pos 16) (negsuc 2)
         ∷ [];
     generators = [];
-    radii = two 11 10;
+    radii = record { carried = two 7 7; rounded = two 4 3; folded = two 0 0; given = two 0 0 };
   });
   next = 65537;
   count = 2;
   over = false;
+  folded = blank 6;
 }
 
 pub two-outcomes :
     (answers 0 begin (fields (started ++ hulled))
     ≡ boxed 0 (pos 49) (pos 153) (negsuc 57) (negsuc 41) ∷ boxed 1 (pos 45) (pos 155) (negsuc 67) (negsuc 31) ∷ [])
     × (run (fields (started ++ hulled)) begin ≡ left)
-unfolding answers outcome after run causes firstOf misplaced cut kindOf fields fieldsWithin meaning number word givenSet badRange badOrder
-    tooWide span termSizes generatorSizes rises order sumBy uptoBy tab any all hull blended opposite rounded inexactAt roundedRadius round
-    exact inexact joined union insertIdentifier align finish dropUnused foldGenerators foldTerms foldHigh dropZeroGenerators dropZeroTerms
-    collectTerms insert collectInto those foldAll foldVector shift growth foldTimes foldSmallest smallest size keepAt longer even half
-    halfSize box lowEnd highEnd least greatest
+unfolding answers outcome after withFolds folds run causes firstOf misplaced cut kindOf fields fieldsWithin meaning number word givenSet
+    badRange badOrder tooWide span termSizes generatorSizes radiusOf rises order sumBy uptoBy tab any all hull blended opposite rounded
+    inexactAt carriedAt roundedAt round exact inexact joined union insertIdentifier align finish dropUnused foldGenerators foldTerms
+    foldHigh dropZeroGenerators dropZeroTerms collectTerms insert collectInto those foldAll foldVector shift growth foldTimes
+    foldSmallest smallest size keepAt longer even half halfSize box lowEnd highEnd least greatest
 two-outcomes = (refl, refl)
 
 -- ---- a hull that changes nothing
@@ -98,11 +100,12 @@ lineOf next g = record {
     centre = pos 0 ∷ [];
     terms = record { exponents = 1 ∷ []; coefficients = g ∷ [] } ∷ [];
     generators = [];
-    radii = 0 ∷ [];
+    radii = givenOnly 1 (0 ∷ []);
   });
   next = next;
   count = 1;
   over = false;
+  folded = blank 6;
 }
 
 -- the hull of 4α with itself is 4α again; the blending factor took the number 65,536 all the same: the sum after it gives the next one
@@ -117,17 +120,18 @@ pub number-taken :
             ∷ record { exponents = 1 ∷ 0 ∷ []; coefficients = pos 4 ∷ [] }
             ∷ [];
         generators = [];
-        radii = 0 ∷ [];
+        radii = givenOnly 1 (0 ∷ []);
       });
       next = 65538;
       count = 3;
       over = false;
+      folded = blank 6;
     }
-unfolding after run causes firstOf misplaced cut kindOf fields fieldsWithin meaning number word givenSet badRange badOrder tooWide span
-    termSizes generatorSizes rises order sumBy uptoBy tab any all hull blended opposite rounded inexactAt roundedRadius round exact
-    inexact independentSum tiedSum renumbered joined union insertIdentifier align finish dropUnused foldGenerators foldTerms foldHigh
-    dropZeroGenerators dropZeroTerms collectTerms insert collectInto those foldAll foldVector shift growth foldTimes foldSmallest smallest
-    size keepAt longer even half halfSize
+unfolding after withFolds folds run causes firstOf misplaced cut kindOf fields fieldsWithin meaning number word givenSet badRange
+    badOrder tooWide span termSizes generatorSizes radiusOf rises order sumBy uptoBy tab any all hull blended opposite rounded inexactAt
+    carriedAt roundedAt round exact inexact independentSum tiedSum renumbered joined union insertIdentifier align finish dropUnused
+    foldGenerators foldTerms foldHigh dropZeroGenerators dropZeroTerms collectTerms insert collectInto those foldAll foldVector shift
+    growth foldTimes foldSmallest smallest size keepAt longer even half halfSize
 number-taken = refl
 
 -- ---- refusals
@@ -161,8 +165,8 @@ pub hull-causes :
     × (refusal (lineOf firstFresh (pos 1)) (many 1 11) ≡ none)
     × (refusal (lineOf firstFresh (pos 1)) (many 1 12) ≡ some 9)
     × (refusal (lineOf firstFresh (pos 1048576)) (line 8 1 (pos 1048575)) ≡ some 10)
-unfolding causes firstOf misplaced cut kindOf meaning number word givenSet badRange badOrder tooWide span termSizes generatorSizes rises
-    order sumBy uptoBy tab any all hull blended opposite rounded inexactAt roundedRadius round exact inexact joined union insertIdentifier
-    align finish dropUnused foldGenerators foldTerms foldHigh dropZeroGenerators dropZeroTerms collectTerms insert collectInto those
-    foldAll foldVector shift growth foldTimes foldSmallest smallest size keepAt longer even half halfSize
+unfolding causes firstOf misplaced cut kindOf meaning number word givenSet badRange badOrder tooWide span termSizes generatorSizes
+    radiusOf rises order sumBy uptoBy tab any all hull blended opposite rounded inexactAt carriedAt roundedAt round exact inexact joined
+    union insertIdentifier align finish dropUnused foldGenerators foldTerms foldHigh dropZeroGenerators dropZeroTerms collectTerms
+    insert collectInto those foldAll foldVector shift growth foldTimes foldSmallest smallest size keepAt longer even half halfSize
 hull-causes = (refl, refl, refl, refl, refl, refl, refl, refl, refl, refl, refl)

@@ -13,6 +13,7 @@ use Rattle.model.specs.Valid.{factorless}
 use Rattle.model.specs.Operations.{union, joined}
 use Rattle.model.specs.Hull.{blend, opposite, blended}
 use Rattle.model.proofs.Lists.{Rising, nothing, first}
+use Rattle.model.proofs.Radii.{carried-only-long}
 use Rattle.model.proofs.Shape.{Row, Shaped}
 use Rattle.model.proofs.Union.{union-all}
 use Rattle.model.proofs.SumShape.{joined-ready}
@@ -74,7 +75,7 @@ blended-shaped next {s} {u} a b e =
     let difference = joined-ready a (opposite-ready b) e .shaped in
     record {
       centre-long = length-map (joined s u .centre) (pos 8388608 *ℤ_) ∙ sum .centre-long;
-      radii-long = length-tab (s .dimension) _;
+      radii-long = carried-only-long (s .dimension) _ (length-tab (s .dimension) _);
       rows = more (record {
         exponents-long = length-append {A = ℕ} (replicate (length ms) 0) (1 ∷ []) ∙ ap (_+ 1) (length-replicate {A = ℕ} (length ms) 0) ∙ l;
         coefficients-long = length-map (joined s (opposite u) .centre) (pos 8388608 *ℤ_) ∙ difference .centre-long;

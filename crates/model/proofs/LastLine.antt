@@ -7,7 +7,7 @@ use Prim.Native.Nat.{ℕ, suc, _+_, _-_}
 use native.Mathlib.Omega.{arith}
 use lib.ListN.{length}
 use Rattle.model.specs.Run.{State, begin, tag, refusal, accepted, after, outcome, Answer, answer, run, answers, fields}
-use Rattle.model.specs.Text.{lineOf, refusalLine, endLine, outcomeLine, closing, linesFrom, printed}
+use Rattle.model.specs.Text.{lineOf, refusalLine, endLine, foldedLine, outcomeLine, closing, linesFrom, printed}
 
 -- ---- what a field of a run that isn't over gives, by its refusal
 no-cause : {A : Type 0} (b : Bool) (o : Option ℕ) (x y : A) (z : ℕ → A) → b ≡ false → o ≡ none
@@ -112,31 +112,41 @@ unfolding accepted
 refused-accepted st f n e r = a-cause (st .over) (refusal st f) _ _ _ n e r
 
 closing-is : (st : State) (fs : List (List ℕ)) → st .over ≡ false
-    → closing (run fs st) ≡ cond (unrefused st fs) (endLine (st .count + length fs - 1)) []
+    → closing (run fs st) ≡ cond (unrefused st fs) (foldedLine (run fs st .folded) ++ endLine (st .count + length fs - 1)) []
 unfolding run unrefused closing
-closing-is st [] e = ap (λ b. cond b [] (endLine (st .count - 1))) e ∙ ap endLine (omega arith)
+closing-is st [] e =
+    ap (λ b. cond b [] (foldedLine (st .folded) ++ endLine (st .count - 1))) e ∙ ap (λ n. foldedLine (st .folded) ++ endLine n)
+    (omega arith)
 closing-is st (f ∷ fs) e = go (refusal st f) refl (closing-is (after st f) fs)
   where
     go : (o : Option ℕ) → refusal st f ≡ o
         → (after st f .over ≡ false
-        → closing (run fs (after st f)) ≡ cond (unrefused (after st f) fs) (endLine (after st f .count + length fs - 1)) [])
-        → closing (run fs (after st f)) ≡ cond (accepted st f && unrefused (after st f) fs) (endLine (st .count + suc (length fs) - 1)) []
+        → closing (run fs (after st f))
+        ≡ cond (unrefused (after st f) fs) (foldedLine (run fs (after st f) .folded) ++ endLine (after st f .count + length fs - 1)) [])
+        → closing (run fs (after st f))
+        ≡ cond (accepted st f && unrefused (after st f) fs)
+        (foldedLine (run fs (after st f) .folded) ++ endLine (st .count + suc (length fs) - 1)) []
     go none r later =
         let a = accepted-state st f e r in
         later (a .1)
-        ∙ ap₂ (λ b k. cond b (endLine k) []) (sym (ap (_&& unrefused (after st f) fs) (a .0)))
+        ∙ ap₂ (λ b k. cond b (foldedLine (run fs (after st f) .folded) ++ endLine k) []) (sym (ap (_&& unrefused (after st f) fs) (a .0)))
         (ap (λ n. n + length fs - 1) (a .2) ∙ omega arith)
     go (some n) r later =
         let o = refused-over st f n e r in
-        ap closing (over-run (after st f) fs o) ∙ ap (λ b. cond b [] (endLine (after st f .count - 1))) o
-        ∙ sym (ap (λ b. cond (b && unrefused (after st f) fs) (endLine (st .count + suc (length fs) - 1)) []) (refused-accepted st f n e r))
+        ap closing (over-run (after st f) fs o)
+        ∙ ap (λ b. cond b [] (foldedLine (after st f .folded) ++ endLine (after st f .count - 1))) o
+        ∙ sym (ap (λ b. cond (b && unrefused (after st f) fs) (foldedLine (run fs (after st f) .folded)
+        ++ endLine (st .count + suc (length fs) - 1)) []) (refused-accepted st f n e r))
 
--- An output consists of the lines of the answers, and of an `end` line exactly where each field is accepted: it has the number of the last.
+-- An output consists of the lines of the answers, and of a `folded` and an `end` line exactly where each field is accepted: the totals of
+-- the run's folds, and the number of the last field.
 pub end-exactly : (input : List ℕ)
     → printed input
     ≡ linesOf (fields input) (answers 0 begin (fields input))
-    ++ cond (unrefused begin (fields input)) (endLine (length (fields input) - 1)) []
+    ++ cond (unrefused begin (fields input)) (foldedLine (run (fields input) begin .folded) ++ endLine (length (fields input) - 1)) []
 unfolding printed
 end-exactly input =
     by-answers 0 begin (fields input) ∙ ap (linesOf (fields input) (answers 0 begin (fields input)) ++_)
-    (closing-is begin (fields input) refl ∙ ap (λ n. cond (unrefused begin (fields input)) (endLine n) []) (omega arith))
+    (closing-is begin (fields input) refl ∙ ap (λ n. cond (unrefused begin (fields input)) (foldedLine (run (fields input) begin .folded)
+    ++ endLine n) [])
+    (omega arith))

@@ -6,6 +6,7 @@
 --     PairTable                            each place of the pair table belongs to one pair, in row order
 --     Order, Collect, Merge                the order of terms; collecting doesn't depend on the order in which terms come
 --     FoldOrder, Select, Level, FirstBySize   folding the smallest one at a time is keeping the first by size, then by place
+--     Radii                                the radius by its parts
 --     Lists, Tests, Shape                  rising lists; the tests of validity as facts, and back
 --     Selected .. Finished, FixedPoint     a finished set is valid but for its span; a valid set is a fixed point of finishing
 --     StepShape .. HullShape, Held         every operation keeps what a run holds
@@ -36,6 +37,7 @@ pub mod LastLine
 pub mod Cutting
 pub mod PairTable
 pub mod Vectors
+pub mod Radii
 pub mod Order
 pub mod Collect
 pub mod Merge
@@ -51,6 +53,7 @@ pub mod Collected
 pub mod Unused
 pub mod Stages
 pub mod Finished
+pub mod Folds
 pub mod FixedPoint
 pub mod StepShape
 pub mod Union
@@ -62,6 +65,7 @@ pub mod Accepted
 pub mod ByKind
 pub mod Sound
 pub mod Answers
+pub mod Origin
 pub mod Choice
 pub mod Parts
 pub mod Covers

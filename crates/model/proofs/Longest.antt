@@ -12,20 +12,21 @@ use lib.IntN.{pos}
 use Rattle.whole.specs.Sum.{sumBy}
 use Rattle.whole.specs.Tab.{tab, any, all}
 use Rattle.model.specs.Limits.{firstFresh, lastField}
-use Rattle.model.specs.Set.{Zonotope, termSizes, generatorSizes, span, longer}
+use Rattle.model.specs.Set.{Zonotope, termSizes, generatorSizes, span, longer, radiusOf, blank, givenOnly}
 use Rattle.model.specs.Valid.{order, rises, badRange, badOrder, tooWide}
 use Rattle.model.specs.Operations.{disturb}
 use Rattle.model.specs.Bytes.{number, word}
 use Rattle.model.specs.Body.{givenSet, givenRadii}
 use Rattle.model.specs.Field.{meaning}
-use Rattle.model.specs.Run.{State, begin, firstOf, kindOf, misplaced, cut, causes, refusal, after, run}
+use Rattle.model.specs.Finish.{folds}
+use Rattle.model.specs.Run.{State, begin, firstOf, kindOf, misplaced, cut, causes, refusal, after, run, withFolds}
 
 -- the point 0 in one coordinate, as a start set and as a set
 abbrev started : List ℕ
 started = 1 ∷ 12 ∷ 0 ∷ 1 ∷ 0 ∷ 0 ∷ 0 ∷ 0 ∷ 0 ∷ 0 ∷ 0 ∷ 0 ∷ 0 ∷ 0 ∷ 0 ∷ []
 
 abbrev origin : Zonotope
-origin = record { dimension = 1; identifiers = []; centre = pos 0 ∷ []; terms = []; generators = []; radii = 0 ∷ [] }
+origin = record { dimension = 1; identifiers = []; centre = pos 0 ∷ []; terms = []; generators = []; radii = givenOnly 1 (0 ∷ []) }
 
 -- a disturbance of 0
 abbrev undisturbed : List ℕ
@@ -33,23 +34,24 @@ undisturbed = 3 ∷ 5 ∷ 0 ∷ 1 ∷ 0 ∷ 0 ∷ 0 ∷ 0 ∷ []
 
 -- the state after n fields that leave this set
 abbrev reached : ℕ → State
-reached n = record { set = some origin; next = firstFresh; count = n; over = false }
+reached n = record { set = some origin; next = firstFresh; count = n; over = false; folded = blank 6 }
 
 starts : after begin started ≡ reached 1
-unfolding after causes firstOf misplaced cut kindOf meaning number word givenSet badRange badOrder tooWide span termSizes generatorSizes rises
-    sumBy tab any all
+unfolding after withFolds folds causes firstOf misplaced cut kindOf meaning number word givenSet badRange badOrder tooWide span
+    termSizes generatorSizes radiusOf rises sumBy tab any all
 starts = refl
 
 goes-on : (n : ℕ) → suc n ≤ lastField → after (reached (suc n)) undisturbed ≡ reached (suc n + 1)
-unfolding after causes firstOf misplaced cut kindOf meaning number word givenRadii disturb longer tooWide span termSizes generatorSizes sumBy
-    tab any all
+unfolding after withFolds folds causes firstOf misplaced cut kindOf meaning number word givenRadii disturb longer tooWide span termSizes
+    generatorSizes radiusOf sumBy tab any all
 goes-on n h = rw (le-ltb lastField (suc n) h)
 
 many : (k n : ℕ) → n + k ≤ lastField → run (replicate k undisturbed) (reached (suc n)) ≡ reached (suc (n + k))
 unfolding run
 many zero n h = rw (add-zero n)
 many (suc k) n h =
-    ap (run (replicate k undisturbed)) (goes-on n (omega arith) ∙ ap reached (next n)) ∙ many k (suc n) (omega arith) ∙ ap (λ m. reached (suc m)) (step n k)
+    ap (run (replicate k undisturbed)) (goes-on n (omega arith) ∙ ap reached (next n)) ∙ many k (suc n) (omega arith) ∙ ap (λ m. reached
+    (suc m)) (step n k)
   where
     next : (n : ℕ) → suc n + 1 ≡ suc (suc n)
     next n = omega arith

@@ -17,7 +17,7 @@ use Rattle.whole.specs.Sum.{sumℕ, sumBy, monoidℕ, sum-++, sum-map}
 use Rattle.whole.specs.Tab.{tab, any}
 use Rattle.rational.specs.Sum.{All, more}
 use Rattle.model.specs.Limits.{maxSpan, standardWeights}
-use Rattle.model.specs.Set.{Term, Zonotope, at, radius, termSizes, generatorSizes, span}
+use Rattle.model.specs.Set.{Term, Zonotope, at, radiusOf, termSizes, generatorSizes, span}
 use Rattle.model.specs.Valid.{Order, less, equal, greater, order, zeros, occurs, tooWide}
 use Rattle.model.specs.Finish.{Core, byOrder, addTerm, insert, collectInto, those, shift, growth, foldVector, foldTerm}
 use Rattle.model.specs.Finish.{foldGenerator, size, keepExponents, core, tooHigh, allEven, collectTerms, dropZeroTerms}
@@ -131,29 +131,29 @@ zero-generators-narrower s = record {
 }
 
 high-narrower : (s : Zonotope) → Narrower s (foldHigh s)
-unfolding foldHigh span termSizes generatorSizes
+unfolding foldHigh span termSizes generatorSizes radiusOf
 high-narrower s = record {
   no-wider = λ i.
-      let most = natAbs (at (s .centre) i) + sumℕ (of-term i) (s .terms) + radius s i in
+      let most = natAbs (at (s .centre) i) + sumℕ (of-term i) (s .terms) + getD (s .radii .folded) i 0 in
       let h = those-keep foldTerm (TermsFit i most) (term-fits i most) tooHigh (core s) [] (s .terms) (omega arith) in
       omega (arith, h);
 }
 
 terms-narrower : (weights : List ℕ) (limit : ℕ) (s : Zonotope) → Narrower s (foldTerms weights limit s)
-unfolding foldTerms span termSizes generatorSizes
+unfolding foldTerms span termSizes generatorSizes radiusOf
 terms-narrower weights limit s = record {
   no-wider = λ i.
-      let most = natAbs (at (s .centre) i) + sumℕ (of-term i) (s .terms) + radius s i in
+      let most = natAbs (at (s .centre) i) + sumℕ (of-term i) (s .terms) + getD (s .radii .folded) i 0 in
       let h = times-keep foldTerm (TermsFit i most) (term-fits i most) (λ t. size weights (t .coefficients)) (length (s .terms) - limit)
       (core s) (s .terms) (omega arith) in
       omega (arith, h);
 }
 
 generators-narrower : (weights : List ℕ) (limit : ℕ) (s : Zonotope) → Narrower s (foldGenerators weights limit s)
-unfolding foldGenerators span termSizes generatorSizes
+unfolding foldGenerators span termSizes generatorSizes radiusOf
 generators-narrower weights limit s = record {
   no-wider = λ i.
-      let most = natAbs (at (s .centre) i) + sumℕ (of-generator i) (s .generators) + radius s i in
+      let most = natAbs (at (s .centre) i) + sumℕ (of-generator i) (s .generators) + getD (s .radii .folded) i 0 in
       let h = times-keep foldGenerator (Fits i (λ g. g) most) (fold-fits i (λ g. g) (λ g. false) most)
       (size weights) (length (s .generators) - limit) (core s) (s .generators) (omega arith) in
       omega (arith, h);

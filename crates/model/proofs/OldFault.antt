@@ -20,9 +20,9 @@ use Rattle.rational.specs.Bounds.{Within, within-one, within-neg, within-NonNeg
 use Rattle.rational.specs.Power.{power, even}
 use Rattle.rational.specs.Sum.{sum}
 use Rattle.model.specs.Limits.{firstFresh}
-use Rattle.model.specs.Set.{termSizes, generatorSizes, span, longer}
+use Rattle.model.specs.Set.{termSizes, generatorSizes, span, longer, radiusOf}
 use Rattle.model.specs.Valid.{order, rises, badRange, badOrder, tooWide}
-use Rattle.model.specs.Finish.{insert, collectInto, those, shift, growth, foldVector, foldAll, size, smallest, foldSmallest}
+use Rattle.model.specs.Finish.{insert, collectInto, those, shift, growth, foldVector, foldAll, size, smallest, foldSmallest, folds}
 use Rattle.model.specs.Finish.{foldTimes}
 use Rattle.model.specs.Finish.{keepAt, collectTerms, dropZeroTerms, dropZeroGenerators, foldHigh, foldTerms, foldGenerators}
 use Rattle.model.specs.Finish.{dropUnused, finish}
@@ -31,14 +31,20 @@ use Rattle.model.specs.Operations.{lowEnd, highEnd, box, Box}
 use Rattle.model.specs.Bytes.{number, word}
 use Rattle.model.specs.Body.{givenSet}
 use Rattle.model.specs.Field.{rangedStep, meaning, inside}
-use Rattle.model.specs.Run.{tag, kindOf, firstOf, misplaced, cut, causes, accepted, after, outcome}
+use Rattle.model.specs.Run.{tag, kindOf, firstOf, misplaced, cut, causes, accepted, after, outcome, withFolds}
 use Rattle.model.specs.Points.{monomial, termsAt, generatorsAt, valueAt}
 use Rattle.model.specs.Motion.{Picks, Allowed, Moment, beginning, move, follow, Kept}
 
 -- ---- the old edition: every field is given the next identifier with which the run began
 abbrev forgotten : Moment → Moment
 forgotten now = record {
-  state = record { set = now .state .set; next = firstFresh; count = now .state .count; over = now .state .over };
+  state = record {
+    set = now .state .set;
+    next = firstFresh;
+    count = now .state .count;
+    over = now .state .over;
+    folded = now .state .folded;
+  };
   mark = now .mark;
   values = now .values;
   position = now .position;
@@ -127,11 +133,11 @@ computed :
     T (accepted (forgotten second .state) (field 4 minus))
     × (outcome 0 (forgotten second .state) (field 4 minus) ≡ inside narrow)
     × (third .position 0 ≡ bodyAt (pos 4096) 1ℚ +ℚ bodyAt (pos 4096) 1ℚ +ℚ bodyAt (negsuc 4095) (negℚ 1ℚ))
-unfolding follow accepted after outcome causes firstOf misplaced cut kindOf meaning number word givenSet badRange badOrder tooWide span
-    termSizes generatorSizes rises order sumBy uptoBy tab any all independentSum tiedSum renumbered joined union insertIdentifier align
-    finish dropUnused foldGenerators foldTerms foldHigh dropZeroGenerators dropZeroTerms collectTerms insert collectInto those foldAll
-    foldVector shift growth foldTimes foldSmallest smallest size keepAt longer even half halfSize box lowEnd highEnd least greatest
-    move valueAt termsAt generatorsAt monomial power sum
+unfolding follow accepted after withFolds folds outcome causes firstOf misplaced cut kindOf meaning number word givenSet badRange
+    badOrder tooWide span termSizes generatorSizes radiusOf rises order sumBy uptoBy tab any all independentSum tiedSum renumbered
+    joined union insertIdentifier align finish dropUnused foldGenerators foldTerms foldHigh dropZeroGenerators dropZeroTerms
+    collectTerms insert collectInto those foldAll foldVector shift growth foldTimes foldSmallest smallest size keepAt longer even half
+    halfSize box lowEnd highEnd least greatest move valueAt termsAt generatorsAt monomial power sum
 computed = (tt, refl, refl)
 
 body-point : (g : ℤ) (v : ℚ) → bodyAt g v ≡ ι g *ℚ v

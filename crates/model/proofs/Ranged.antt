@@ -11,7 +11,7 @@ use Rattle.rational.specs.Sum.{All, none, more}
 use Rattle.model.specs.Set.{Zonotope, plusℕ, span}
 use Rattle.model.specs.Limits.{standardWeights}
 use Rattle.model.specs.Step as Step
-use Rattle.model.specs.Step.{Step, raw, remainder, settled}
+use Rattle.model.specs.Step.{Step, raw, settled}
 use Rattle.model.specs.Operations.{disturb, box}
 use Rattle.model.specs.Ranged as Ranged
 use Rattle.model.specs.Ranged.{Widths, gain, gainingStep}
@@ -48,8 +48,13 @@ nothing-gained weights p s h =
       centre = raw p s .centre;
       terms = raw p s .terms;
       generators = raw p s .generators;
-      radii = r;
-    })) (plus-zeros (p .rows) (remainder p s))
+      radii = record {
+        carried = raw p s .radii .carried;
+        rounded = raw p s .radii .rounded;
+        folded = raw p s .radii .folded;
+        given = r;
+      };
+    })) (plus-zeros (p .rows) (λ i. 0))
 
 -- ---- half-widths of 0
 zero-at : {ws : List ℕ} → All (λ w. w ≡ 0) ws → (k : ℕ) → getD ws k 0 ≡ 0

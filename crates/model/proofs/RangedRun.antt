@@ -12,13 +12,13 @@ use Rattle.whole.specs.Sum.{sumBy, uptoBy}
 use Rattle.whole.specs.Tab.{tab, any, all}
 use Rattle.rational.specs.Power.{even}
 use Rattle.model.specs.Limits.{firstFresh}
-use Rattle.model.specs.Set.{termSizes, generatorSizes, span, longer}
+use Rattle.model.specs.Set.{termSizes, generatorSizes, span, longer, radiusOf, blank, givenOnly}
 use Rattle.model.specs.Valid.{order, rises, badRange, badOrder, tooWide}
-use Rattle.model.specs.Finish.{insert, collectInto, those, shift, growth, foldVector, foldAll, size, smallest, foldSmallest}
+use Rattle.model.specs.Finish.{insert, collectInto, those, shift, growth, foldVector, foldAll, size, smallest, foldSmallest, folds}
 use Rattle.model.specs.Finish.{foldTimes, keepAt, collectTerms, dropZeroTerms, dropZeroGenerators, foldHigh, foldTerms}
 use Rattle.model.specs.Finish.{foldGenerators, dropUnused, finish}
 use Rattle.model.specs.Step.{dot, bilinear, rawCentre, rawLinear, rawSquare, rawPair, pairs, remainder, raw, inexactAt}
-use Rattle.model.specs.Step.{roundedRadius, rounded, step}
+use Rattle.model.specs.Step.{carriedAt, roundedAt, rounded, step}
 use Rattle.model.specs.Operations.{disturb}
 use Rattle.model.specs.Ranged.{gain, gainingStep}
 use Rattle.model.specs.Ranged as Ranged
@@ -26,6 +26,7 @@ use Rattle.model.specs.Bytes.{number, word}
 use Rattle.model.specs.Body.{givenSet, givenStep, givenWidths}
 use Rattle.model.specs.Field.{meaning, beyondWith}
 use Rattle.model.specs.Run.{State, begin, kindOf, firstOf, misplaced, cut, causes, refusal, after, fields, fieldsWithin, run}
+use Rattle.model.specs.Run.{withFolds}
 use Rattle.model.proofs.Written.{bytes, words, field}
 
 -- ---- two coordinates
@@ -47,7 +48,7 @@ entries = words (two (pos 0) (pos 0)) ++ words (two (pos 2048) (pos 2048)) ++ wo
 abbrev ranged : List ℤ → List ℤ → List ℕ
 ranged a q = field 9 (two 2 2 ++ entries ++ words a ++ words q)
 
--- (250, -125) + (10, -5)·α + (8, 2) with these radii
+-- (250, -125) + (10, -5)·α + (8, 2) with these numbers carried
 abbrev left : ℕ → ℕ → State
 left r₁ r₂ = record {
   set = some (record {
@@ -56,36 +57,47 @@ left r₁ r₂ = record {
     centre = two (pos 250) (negsuc 124);
     terms = record { exponents = 1 ∷ []; coefficients = two (pos 10) (negsuc 4) } ∷ [];
     generators = two (pos 8) (pos 2) ∷ [];
-    radii = two r₁ r₂;
+    radii = record { carried = two r₁ r₂; rounded = two 0 1; folded = two 0 0; given = two 0 0 };
   });
   next = firstFresh;
   count = 2;
   over = false;
+  folded = blank 6;
 }
 
--- of the first coordinate S is 154 1/2 units and gains 69.2, which makes 224; of the second it is 2 and gains 9.5 with an inexact rounding,
--- which makes 13. Without half-widths they are 155 and 3, as after the step
+-- of the first coordinate S is 154 1/2 units and gains 69.2, which makes 224; of the second it is 2 and gains 9.5, which makes 12, and there
+-- is an inexact rounding. Without half-widths they are 155 and 2, as after the step
 pub half-widths-add :
     (run (fields (started ++ ranged (pos 205 ∷ pos 0 ∷ pos 3 ∷ pos 51 ∷ [])
-    (pos 0 ∷ pos 40 ∷ pos 0 ∷ pos 3 ∷ pos 7 ∷ pos 0 ∷ pos 0 ∷ pos 60 ∷ []))) begin ≡ left 224 13)
+    (pos 0 ∷ pos 40 ∷ pos 0 ∷ pos 3 ∷ pos 7 ∷ pos 0 ∷ pos 0 ∷ pos 60 ∷ []))) begin ≡ left 224 12)
     × (run (fields (started ++ ranged (pos 0 ∷ pos 0 ∷ pos 0 ∷ pos 0 ∷ [])
-    (pos 0 ∷ pos 0 ∷ pos 0 ∷ pos 0 ∷ pos 0 ∷ pos 0 ∷ pos 0 ∷ pos 0 ∷ []))) begin ≡ left 155 3)
-    × (run (fields (started ++ field 2 (two 2 2 ++ entries))) begin ≡ left 155 3)
-unfolding after run causes firstOf misplaced cut kindOf fields fieldsWithin meaning number word givenSet givenStep givenWidths beyondWith
-    badRange badOrder tooWide span termSizes generatorSizes rises order sumBy uptoBy tab any all Ranged.rangedStep gainingStep gain disturb
-    step rounded raw rawCentre rawLinear rawSquare rawPair pairs remainder dot bilinear inexactAt roundedRadius round exact inexact finish
-    dropUnused foldGenerators foldTerms foldHigh dropZeroGenerators dropZeroTerms collectTerms insert collectInto those foldAll foldVector
-    shift growth foldTimes foldSmallest smallest size keepAt longer even half halfSize
+    (pos 0 ∷ pos 0 ∷ pos 0 ∷ pos 0 ∷ pos 0 ∷ pos 0 ∷ pos 0 ∷ pos 0 ∷ []))) begin ≡ left 155 2)
+    × (run (fields (started ++ field 2 (two 2 2 ++ entries))) begin ≡ left 155 2)
+unfolding after withFolds folds run causes firstOf misplaced cut kindOf fields fieldsWithin meaning number word givenSet givenStep
+    givenWidths beyondWith badRange badOrder tooWide span termSizes generatorSizes radiusOf rises order sumBy uptoBy tab any all
+    Ranged.rangedStep gainingStep gain disturb step rounded raw rawCentre rawLinear rawSquare rawPair pairs remainder dot bilinear
+    inexactAt carriedAt roundedAt round exact inexact finish dropUnused foldGenerators foldTerms foldHigh dropZeroGenerators
+    dropZeroTerms collectTerms insert collectInto those foldAll foldVector shift growth foldTimes foldSmallest smallest size keepAt
+    longer even half halfSize
 half-widths-add = (refl, refl, refl)
 
 -- ---- refusals
 -- the point 1,048,576 in one coordinate
 abbrev far : State
 far = record {
-  set = some (record { dimension = 1; identifiers = []; centre = pos 1048576 ∷ []; terms = []; generators = []; radii = 0 ∷ [] });
+  set = some (record {
+    dimension = 1;
+    identifiers = [];
+    centre = pos 1048576 ∷ [];
+    terms = [];
+    generators = [];
+    radii = givenOnly 1 (0 ∷
+        []);
+  });
   next = firstFresh;
   count = 1;
   over = false;
+  folded = blank 6;
 }
 
 -- x' = c + a·x + q·x², with half-widths
@@ -111,7 +123,7 @@ pub ranged-causes :
     × (refusal far (one (pos 0) (pos 4095) (pos 0) (pos 1) (pos 0)) ≡ none)
     × (refusal far (one (pos 0) (pos 4095) (pos 0) (pos 2) (pos 0)) ≡ some 10)
 unfolding causes firstOf misplaced cut kindOf meaning number word givenStep givenWidths beyondWith tooWide span termSizes generatorSizes
-    sumBy uptoBy tab any all Ranged.rangedStep gainingStep gain disturb rounded raw rawCentre rawLinear rawSquare rawPair pairs remainder
-    dot bilinear inexactAt roundedRadius round exact inexact finish dropUnused foldGenerators foldTerms foldHigh dropZeroGenerators
-    dropZeroTerms collectTerms insert collectInto those foldAll foldTimes foldSmallest smallest size keepAt longer
+    radiusOf sumBy uptoBy tab any all Ranged.rangedStep gainingStep gain disturb rounded raw rawCentre rawLinear rawSquare rawPair pairs
+    remainder dot bilinear inexactAt carriedAt roundedAt round exact inexact finish dropUnused foldGenerators foldTerms foldHigh
+    dropZeroGenerators dropZeroTerms collectTerms insert collectInto those foldAll foldTimes foldSmallest smallest size keepAt longer
 ranged-causes = (refl, refl, refl, refl, refl, refl, refl, refl, refl, refl, refl, refl, refl, refl)

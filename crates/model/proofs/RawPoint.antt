@@ -18,6 +18,7 @@ use Rattle.model.specs.Set.{Zonotope, at, radius, independentSize}
 use Rattle.model.specs.Step.{Step, raw, rawLinear, remainder}
 use Rattle.model.specs.Points.{Vector, valueAt, Point, InRange}
 use Rattle.model.specs.Motion.{places, imageBy, image}
+use Rattle.model.proofs.Radii.{radius-carried}
 use Rattle.model.proofs.Parts.{termParts, generatorParts, spread, terms-spread, generators-spread}
 use Rattle.model.proofs.Forms.{_⊕_, dotℚ, row, bilinearℚ, quadratic, expand}
 use Rattle.model.proofs.PartMaps.{coordinates}
@@ -100,7 +101,8 @@ raw-image p s w bs e r near = record {
   numbers = bs;
   one-each = e ∙ sym (length-map (s .generators) (λ g. tab (p .rows) (rawLinear p s g)));
   in-range = r;
-  near = λ i h. near-as (raw-near p s i h w bs e r near) refl (ap (λ m. ι (pos m)) (sym (getD-tab (p .rows) (remainder p s) 0 i h)));
+  near = λ i h. near-as (raw-near p s i h w bs e r near) refl
+      (ap (λ m. ι (pos m)) (sym (radius-carried (p .rows) (tab (p .rows) (remainder p s)) i ∙ getD-tab (p .rows) (remainder p s) 0 i h)));
 }
 
 -- the scaled image of a point is a point of the raw set

@@ -12,13 +12,13 @@ use Rattle.whole.specs.Sum.{sumBy, uptoBy}
 use Rattle.whole.specs.Tab.{tab, any, all}
 use Rattle.rational.specs.Power.{even}
 use Rattle.model.specs.Limits.{firstFresh}
-use Rattle.model.specs.Set.{Zonotope, termSizes, generatorSizes, span, longer}
+use Rattle.model.specs.Set.{Zonotope, termSizes, generatorSizes, span, longer, radiusOf, blank, givenOnly}
 use Rattle.model.specs.Valid.{order, rises, badRange, badOrder, tooWide}
 use Rattle.model.specs.Finish.{insert, collectInto, those, shift, growth, foldVector, foldAll, size, smallest, foldSmallest}
 use Rattle.model.specs.Finish.{foldTimes, keepAt, collectTerms, dropZeroTerms, dropZeroGenerators, foldHigh, foldTerms}
 use Rattle.model.specs.Finish.{foldGenerators, dropUnused, finish}
 use Rattle.model.specs.Step.{dot, bilinear, rawCentre, rawLinear, rawSquare, rawPair, pairs, remainder, raw, inexactAt}
-use Rattle.model.specs.Step.{roundedRadius, rounded, step}
+use Rattle.model.specs.Step.{carriedAt, roundedAt, rounded, step}
 use Rattle.model.specs.Operations.{insertIdentifier, union, align, joined, tiedSum, renumbered, independentSum, disturb, reduce}
 use Rattle.model.specs.Bytes.{number, word, long}
 use Rattle.model.specs.Body.{givenSet, givenStep, givenHalfspaces, givenRadii}
@@ -29,10 +29,11 @@ use Rattle.model.proofs.Written.{bytes, signed, words, field}
 -- a run that has the point 0 in one coordinate
 abbrev origin : State
 origin = record {
-  set = some (record { dimension = 1; identifiers = []; centre = pos 0 ∷ []; terms = []; generators = []; radii = 0 ∷ [] });
+  set = some (record { dimension = 1; identifiers = []; centre = pos 0 ∷ []; terms = []; generators = []; radii = givenOnly 1 (0 ∷ []) });
   next = firstFresh;
   count = 1;
   over = false;
+  folded = blank 6;
 }
 
 -- one that has 1·α, α being factor 1
@@ -44,11 +45,12 @@ line = record {
     centre = pos 0 ∷ [];
     terms = record { exponents = 1 ∷ []; coefficients = pos 1 ∷ [] } ∷ [];
     generators = [];
-    radii = 0 ∷ [];
+    radii = givenOnly 1 (0 ∷ []);
   });
   next = firstFresh;
   count = 1;
   over = false;
+  folded = blank 6;
 }
 
 -- a start set of four counts alone
@@ -101,8 +103,8 @@ pub count-limits :
     × (refusal origin (checked 9 (pos 0) (pos 0)) ≡ some 4)
     × (refusal origin (checked 0 (pos 0) (pos 0)) ≡ some 4)
 unfolding causes firstOf misplaced cut kindOf meaning number word long givenSet givenHalfspaces badRange badOrder tooWide span termSizes
-    generatorSizes rises order sumBy uptoBy tab any all reduce finish dropUnused foldGenerators foldTerms foldHigh dropZeroGenerators
-    dropZeroTerms collectTerms insert collectInto those foldAll foldTimes foldSmallest smallest size keepAt longer
+    generatorSizes radiusOf rises order sumBy uptoBy tab any all reduce finish dropUnused foldGenerators foldTerms foldHigh
+    dropZeroGenerators dropZeroTerms collectTerms insert collectInto those foldAll foldTimes foldSmallest smallest size keepAt longer
 count-limits = (refl, refl, refl, refl, refl, refl, refl, refl, refl, refl, refl, refl)
 
 -- 6: numbers at their limits pass, one more or less is refused
@@ -122,10 +124,11 @@ pub range-limits :
     × (refusal origin (checked 1 (negsuc 32767) (pos 1099511627776)) ≡ none)
     × (refusal origin (checked 1 (pos 32769) (pos 0)) ≡ some 6)
     × (refusal origin (checked 1 (pos 0) (negsuc 1099511627776)) ≡ some 6)
-unfolding causes firstOf misplaced cut kindOf meaning number word long givenSet givenStep givenHalfspaces givenRadii badRange badOrder tooWide
-    span termSizes generatorSizes rises order sumBy uptoBy tab any all step rounded raw rawCentre rawLinear rawSquare rawPair pairs remainder
-    inexactAt roundedRadius dot bilinear round exact inexact disturb finish dropUnused foldGenerators foldTerms foldHigh dropZeroGenerators
-    dropZeroTerms collectTerms insert collectInto those foldAll foldTimes foldSmallest smallest size keepAt longer
+unfolding causes firstOf misplaced cut kindOf meaning number word long givenSet givenStep givenHalfspaces givenRadii badRange badOrder
+    tooWide span termSizes generatorSizes radiusOf rises order sumBy uptoBy tab any all step rounded raw rawCentre rawLinear rawSquare
+    rawPair pairs remainder inexactAt carriedAt roundedAt dot bilinear round exact inexact disturb finish dropUnused foldGenerators
+    foldTerms foldHigh dropZeroGenerators dropZeroTerms collectTerms insert collectInto those foldAll foldTimes foldSmallest smallest
+    size keepAt longer
 range-limits = (refl, refl, refl, refl, refl, refl, refl, refl, refl, refl, refl, refl, refl, refl, refl)
 
 -- the other numbers: 1 cut short, 2 tag, 3 length, 5 dimension, 7 zero term and factor without term, 8 width, 9 factors, 10 result
@@ -146,7 +149,7 @@ pub other-causes :
     × (refusal line (twelve 4 1) ≡ some 9)
     × (refusal line (disturbed (pos 1048576)) ≡ some 10)
 unfolding causes firstOf misplaced cut kindOf meaning number word long givenSet givenRadii badRange badOrder tooWide span termSizes
-    generatorSizes rises order sumBy uptoBy tab any all independentSum tiedSum renumbered joined union insertIdentifier align disturb finish
-    dropUnused foldGenerators foldTerms foldHigh dropZeroGenerators dropZeroTerms collectTerms insert collectInto those foldAll foldVector
-    shift growth foldTimes foldSmallest smallest size keepAt longer even half halfSize
+    generatorSizes radiusOf rises order sumBy uptoBy tab any all independentSum tiedSum renumbered joined union insertIdentifier align
+    disturb finish dropUnused foldGenerators foldTerms foldHigh dropZeroGenerators dropZeroTerms collectTerms insert collectInto those
+    foldAll foldVector shift growth foldTimes foldSmallest smallest size keepAt longer even half halfSize
 other-causes = (refl, refl, refl, refl, refl, refl, refl, refl, refl, refl, refl, refl, refl, refl, refl)

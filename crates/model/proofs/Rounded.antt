@@ -1,7 +1,7 @@
 -- The second stage of a step, of any set: where 16,777,216·x is a point of the set, x is a point of the set rounded.
 use mathlib.Core.Path.{_≡_, refl, sym, _∙_, ap, ap₂, subst}
 use mathlib.Core.List.{List, _++_, map, map-append}
-use Prim.Native.Nat.{ℕ, _+_, _*_, _≤_}
+use Prim.Native.Nat.{ℕ, _+_, _*_, _≤_, _<_}
 use native.Mathlib.Omega.{arith}
 use lib.ListN.{length, getD, length-map, List·getD-map}
 use lib.IntN.{ℤ, pos, _+ℤ_, _-ℤ_, _*ℤ_}
@@ -18,9 +18,10 @@ use Rattle.rational.specs.Order.{≤ℚ-refl, ι-mono}
 use Rattle.rational.specs.Bounds.{Within, within-*, within-mono, within-ι, within-scaled, within-NonNeg}
 use Rattle.rational.specs.Near.{Near, near-+, near-trans, near-mono, near-as}
 use Rattle.rational.specs.Sum.{sum-*, sum-cong, sum-near, All, All-imp, All-++}
-use Rattle.model.specs.Set.{Zonotope, at, radius}
-use Rattle.model.specs.Step.{inexactAt, roundedRadius, rounded}
+use Rattle.model.specs.Set.{Zonotope, at, radius, radiusOf}
+use Rattle.model.specs.Step.{inexactAt, carriedAt, roundedAt, rounded}
 use Rattle.model.specs.Points.{Vector, valueAt, Point, InRange}
+use Rattle.model.proofs.Radii.{blank-at}
 use Rattle.model.proofs.Parts.{Part, termParts, generatorParts, partsOf, spread, value-parts, Ranged, terms-ranged}
 use Rattle.model.proofs.Parts.{generators-ranged}
 use Rattle.model.proofs.WholeForms.{ι-+ℕ, ι-*ℕ}
@@ -122,12 +123,18 @@ unscale {y} {v} c n le = subst (λ a. Near a v c) (back y)
 pub ≤-whole : (m n : ℕ) {a b : ℚ} → ι (pos m) ≡ a → ι (pos n) ≡ b → m ≤ n → a ≤ℚ b
 ≤-whole m n {a} e f h = subst (a ≤ℚ_) f (subst (_≤ℚ ι (pos n)) e (ι-mono h))
 
+-- the radius of the set rounded: what is carried, and what rounding adds
+pub rounded-radius : (r : Zonotope) (i : ℕ) → i < r .dimension → radius (rounded r) i ≡ carriedAt r i + roundedAt r i
+unfolding rounded radiusOf
+rounded-radius r i h =
+    omega (arith, getD-tab (r .dimension) (carriedAt r) 0 i h, getD-tab (r .dimension) (roundedAt r) 0 i h, blank-at (r .dimension) i)
+
 -- the radius over the scale and half the count, each rounded up, are enough
 radius-enough : (r : Zonotope) (i : ℕ)
-    → ι (pos (radius r i)) +ℚ ι (pos 8388608) *ℚ ι (pos (inexactAt r i)) ≤ℚ ι (pos scale) *ℚ ι (pos (roundedRadius r i))
-unfolding roundedRadius
-radius-enough r i = ≤-whole (radius r i + 8388608 * inexactAt r i) (scale * roundedRadius r i)
-    (simp (ι-+ℕ, ι-*ℕ)) (ι-*ℕ scale (roundedRadius r i)) (omega arith)
+    → ι (pos (radius r i)) +ℚ ι (pos 8388608) *ℚ ι (pos (inexactAt r i)) ≤ℚ ι (pos scale) *ℚ ι (pos (carriedAt r i + roundedAt r i))
+unfolding carriedAt roundedAt
+radius-enough r i = ≤-whole (radius r i + 8388608 * inexactAt r i) (scale * (carriedAt r i + roundedAt r i))
+    (simp (ι-+ℕ, ι-*ℕ)) (ι-*ℕ scale (carriedAt r i + roundedAt r i)) (omega arith)
 
 -- where 16,777,216·x is a point of a set, x is a point of the set rounded
 pub rounded-point : {r : Zonotope} {α : Vector} (x : Vector) → InRange α → Point r α (λ i. ι (pos scale) *ℚ x i) → Point (rounded r) α x
@@ -136,7 +143,7 @@ rounded-point {r} {α} x w pt = record {
   numbers = pt .numbers;
   one-each = pt .one-each ∙ sym (length-map (r .generators) (map round));
   in-range = pt .in-range;
-  near = λ i h. near-as (unscale (ι (pos (roundedRadius r i))) (near-trans (pt .near i h)
+  near = λ i h. near-as (unscale (ι (pos (carriedAt r i + roundedAt r i))) (near-trans (pt .near i h)
       (round-value r α (pt .numbers) w (pt .one-each) (pt .in-range) i)) (radius-enough r i))
-      refl (ap (λ m. ι (pos m)) (sym (getD-tab (r .dimension) (roundedRadius r) 0 i h)));
+      refl (ap (λ m. ι (pos m)) (sym (rounded-radius r i h)));
 }

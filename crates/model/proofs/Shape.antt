@@ -14,6 +14,7 @@ use Rattle.model.specs.Set.{Term, Zonotope}
 use Rattle.model.specs.Valid.{Order, less, equal, greater, order, isLess, rises, zeros, factorless, occurs}
 use Rattle.model.specs.Valid.{badCounts, badRange, badOrder, tooWide}
 use Rattle.model.specs.Finish.{tooHigh}
+use Rattle.model.proofs.Radii.{PartsLong}
 use Rattle.model.proofs.Order.{order-trans}
 use Rattle.model.proofs.Lists.{Rising}
 use Rattle.model.proofs.Tests.{or-false, false-or, any-false, false-any, all-true, true-all, all-tab, tab-all, rises-true}
@@ -26,7 +27,7 @@ pub record Row (p n : ℕ) (t : Term) : Type 0 where
 
 pub record Shaped (s : Zonotope) : Type 0 where
   pub centre-long : length (s .centre) ≡ s .dimension
-  pub radii-long : length (s .radii) ≡ s .dimension
+  pub radii-long : PartsLong (s .dimension) (s .radii)
   pub rows : All (Row (length (s .identifiers)) (s .dimension)) (s .terms)
   pub generators-long : All (λ g. length g ≡ s .dimension) (s .generators)
 

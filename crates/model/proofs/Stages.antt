@@ -7,7 +7,7 @@ use lib.ListN.{length, length-map}
 use lib.IntN.{ℤ, _+ℤ_}
 use borrow.Author.Tests.{not-true}
 use Rattle.rational.specs.Sum.{All, All-imp}
-use Rattle.model.specs.Set.{Term, Zonotope}
+use Rattle.model.specs.Set.{Term, Zonotope, withFolded}
 use Rattle.model.specs.Valid.{factorless, zeros}
 use Rattle.model.specs.Finish.{Core, addTerm, shift, growth, foldVector, foldTerm, foldGenerator}
 use Rattle.model.specs.Finish.{tooHigh, core, collectTerms, dropZeroTerms, dropZeroGenerators, foldHigh, foldTerms}
@@ -67,16 +67,16 @@ lessened-trans a b = record {
   shapes = λ h. b .shapes (a .shapes h);
 }
 
--- centre and radii keep their lengths
+-- centre and folded parts keep their lengths
 record CoreLong (n : ℕ) (k : Core) : Type 0 where
   pub centre-long : length (k .centre) ≡ n
-  pub radii-long : length (k .radii) ≡ n
+  pub folded-long : length (k .radii) ≡ n
 
 fold-sized : {n : ℕ} (b : Bool) (v : List ℤ) (k : Core) → length v ≡ n → CoreLong n k → CoreLong n (foldVector b v k)
 unfolding foldVector
 fold-sized b v k e h = record {
   centre-long = longer-length _+ℤ_ (k .centre) (map (shift b) v) (h .centre-long ∙ sym e ∙ sym (length-map v (shift b))) ∙ h .centre-long;
-  radii-long = longer-length _+_ (k .radii) (map (growth b) v) (h .radii-long ∙ sym e ∙ sym (length-map v (growth b))) ∙ h .radii-long;
+  folded-long = longer-length _+_ (k .radii) (map (growth b) v) (h .folded-long ∙ sym e ∙ sym (length-map v (growth b))) ∙ h .folded-long;
 }
 
 term-sized : {p n : ℕ} (t : Term) (k : Core) → Row p n t → CoreLong n k → CoreLong n (foldTerm t k)
@@ -87,7 +87,7 @@ abbrev Fits : Zonotope → Core → Type 0
 Fits s k = Shaped s → CoreLong (s .dimension) k
 
 own-core : {s : Zonotope} → Fits s (core s)
-own-core h = record { centre-long = h .centre-long; radii-long = h .radii-long }
+own-core h = record { centre-long = h .centre-long; folded-long = h .radii-long .folded-long }
 
 lessened : {s : Zonotope} {k : Core} {ts : List Term} {gs : List (List ℤ)} → Sublist ts (s .terms) → Sublist gs (s .generators) → Fits s k
     → Lessened s (record {
@@ -96,7 +96,7 @@ lessened : {s : Zonotope} {k : Core} {ts : List Term} {gs : List (List ℤ)} →
       centre = k .centre;
       terms = ts;
       generators = gs;
-      radii = k .radii;
+      radii = withFolded (s .radii) (k .radii);
     })
 lessened a b f = record {
   same-dimension = refl;
@@ -105,7 +105,12 @@ lessened a b f = record {
   generators-among = b;
   shapes = λ h. record {
     centre-long = f h .centre-long;
-    radii-long = f h .radii-long;
+    radii-long = record {
+      carried-long = h .radii-long .carried-long;
+      rounded-long = h .radii-long .rounded-long;
+      folded-long = f h .folded-long;
+      given-long = h .radii-long .given-long;
+    };
     rows = sublist-all a (h .rows);
     generators-long = sublist-all b (h .generators-long);
   };

@@ -1,19 +1,22 @@
--- A step's raw and rounded image has the step's shape, and each of its terms has a factor.
-use mathlib.Core.Path.{_≡_, refl, sym, _∙_}
+-- A step's raw and rounded image has the step's shape, and each of its terms has a factor. Past a set's coordinates no rounding is inexact.
+use mathlib.Core.Path.{_≡_, refl, sym, _∙_, ap, ap₂}
 use mathlib.Core.List.{List, [], _∷_, map}
 use mathlib.Core.Bool.{Bool, true, false, _&&_, true≢false}
-use Prim.Native.Nat.{ℕ, _+_}
+use Prim.Native.Nat.{ℕ, _+_, _≤_}
 use native.Mathlib.Omega.{arith}
 use lib.Dec.{eqb}
-use lib.ListN.{length-map}
+use lib.ListN.{length, length-map, List·getD-eq-default}
+use lib.IntN.{ℤ, pos}
 use borrow.Author.Tests.{eqb-false, ne-eqb}
-use Rattle.whole.specs.Round.{round}
+use Rattle.whole.specs.Round.{round, exact, inexact}
+use Rattle.whole.specs.Sum.{sumBy, sumℕ}
 use Rattle.whole.specs.Tab.{all, length-tab}
 use Rattle.rational.specs.Sum.{All, none, more, All-imp, All-map, All-++}
-use Rattle.model.specs.Set.{Term, Zonotope, longer, plusℕ}
+use Rattle.model.specs.Set.{Term, Zonotope, at, longer, plusℕ}
 use Rattle.model.specs.Valid.{factorless}
-use Rattle.model.specs.Step.{Step, own, paired, pairs, rawCentre, rawLinear, raw, rounded}
+use Rattle.model.specs.Step.{Step, own, paired, pairs, rawCentre, rawLinear, raw, inexactAt, rounded}
 use Rattle.model.proofs.Vectors.{longer-length}
+use Rattle.model.proofs.Radii.{carried-only-long}
 use Rattle.model.proofs.Lists.{all-both}
 use Rattle.model.proofs.Shape.{Row, Shaped}
 use Rattle.model.proofs.Finished.{Ready}
@@ -68,7 +71,12 @@ pub rounded-shaped : {r : Zonotope} → Shaped r → Shaped (rounded r)
 unfolding rounded
 rounded-shaped {r} h = record {
   centre-long = length-map (r .centre) round ∙ h .centre-long;
-  radii-long = length-tab (r .dimension) _;
+  radii-long = record {
+    carried-long = length-tab (r .dimension) _;
+    rounded-long = length-tab (r .dimension) _;
+    folded-long = length-tab (r .dimension) _;
+    given-long = length-tab (r .dimension) _;
+  };
   rows = All-map _ (All-imp (λ t p. record {
     exponents-long = p .exponents-long;
     coefficients-long = length-map (t .coefficients) round ∙ p .coefficients-long;
@@ -93,10 +101,26 @@ raw-ready p {s} r =
     record {
       shaped = record {
         centre-long = length-tab (p .rows) (rawCentre p s);
-        radii-long = length-tab (p .rows) _;
+        radii-long = carried-only-long (p .rows) _ (length-tab (p .rows) _);
         rows = All-imp (λ t h. h .0) image;
         generators-long = All-map _ (All-imp (λ g h. length-tab (p .rows) (rawLinear p s g)) (r .shaped .generators-long));
       };
       identifiers-rise = r .identifiers-rise;
       has-factors = All-imp (λ t h. h .1) image;
     }
+
+-- ---- past the coordinates nothing is rounded
+sum-none : {A : Type 0} (f : A → ℕ) {l : List A} → All (λ a. f a ≡ 0) l → sumℕ f l ≡ 0
+unfolding sumBy
+sum-none f none = refl
+sum-none f (more h t) = ap₂ _+_ h (sum-none f t)
+
+pub inexact-past : {r : Zonotope} → Shaped r → (i : ℕ) → r .dimension ≤ i → inexactAt r i ≡ 0
+unfolding inexactAt inexact exact
+inexact-past {r} h i past =
+    ap₂ _+_ (ap₂ _+_ (zero-at (r .centre) (h .centre-long))
+    (sum-none _ (All-imp (λ t p. zero-at (t .coefficients) (p .coefficients-long)) (h .rows))))
+    (sum-none _ (All-imp (λ g e. zero-at g e) (h .generators-long)))
+  where
+    zero-at : (v : List ℤ) → length v ≡ r .dimension → inexact (at v i) ≡ 0
+    zero-at v e = ap inexact (List·getD-eq-default v (pos 0) (omega arith))

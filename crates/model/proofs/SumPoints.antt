@@ -14,13 +14,14 @@ use Rattle.rational.specs.Pinned.{ι-+}
 use Rattle.rational.specs.Bounds.{Within, within-+}
 use Rattle.rational.specs.Near.{near-+, near-as}
 use Rattle.rational.specs.Sum.{sum-++, sum-map, sum-cong, All, All-++, All-imp}
-use Rattle.model.specs.Set.{Term, Zonotope, at, plusℕ}
+use Rattle.model.specs.Set.{Term, Zonotope, at, radius}
 use Rattle.model.specs.Valid.{rises}
 use Rattle.model.specs.Limits.{maxTerms, maxGenerators}
 use Rattle.model.specs.Operations.{union, align, aligned, joined, tiedSum, renumbered, independentSum, disturb}
 use Rattle.model.specs.Points.{Vector, monomial, termsAt, generatorsAt, valueAt, Point, InRange}
 use Rattle.model.specs.Precision.{Renumbers}
-use Rattle.model.proofs.Vectors.{plusℤ-at, plusℕ-at}
+use Rattle.model.proofs.Vectors.{plusℤ-at}
+use Rattle.model.proofs.Radii.{radius-plus, radius-disturbed}
 use Rattle.model.proofs.Parts.{spread, spread-++, generatorParts, generatorParts-++, generators-spread}
 use Rattle.model.proofs.Aligned.{Found, monomial-aligned, found-left, found-right}
 use Rattle.model.proofs.Values.{same-values, renumbered-points}
@@ -77,8 +78,8 @@ joined-value s u r α b c e i =
     regroup a b c d = simp ring
 
 -- radii add
-added-radius : (r q : List ℕ) (i : ℕ) → ι (pos (getD r i 0)) +ℚ ι (pos (getD q i 0)) ≡ ι (pos (getD (plusℕ r q) i 0))
-added-radius r q i = sym (ap (λ n. ι (pos n)) (plusℕ-at r q i) ∙ ι-+ (pos (getD r i 0)) (pos (getD q i 0)))
+added-radius : (m n : ℕ) {k : ℕ} → k ≡ m + n → ι (pos m) +ℚ ι (pos n) ≡ ι (pos k)
+added-radius m n e = sym (ap (λ n. ι (pos n)) e ∙ ι-+ (pos m) (pos n))
 
 -- a point of each summand, at the same factor values, gives a point of the sum
 pub joined-points : {s u : Zonotope} {α x y : Vector} → rises ltb (s .identifiers) ≡ true → s .dimension ≡ u .dimension
@@ -90,7 +91,8 @@ joined-points {s} {u} {α} r e p q = record {
       ∙ sym (length-append (s .generators) (u .generators));
   in-range = All-++ (p .in-range) (q .in-range);
   near = λ i h. near-as (near-+ (p .near i h) (q .near i (omega arith)))
-      (sym (joined-value s u r α (p .numbers) (q .numbers) (p .one-each) i)) (added-radius (s .radii) (u .radii) i);
+      (sym (joined-value s u r α (p .numbers) (q .numbers) (p .one-each) i)) (added-radius (radius s i) (radius u i) (radius-plus
+      (s .radii) (u .radii) i));
 }
 
 -- and of the finished sum
@@ -120,5 +122,5 @@ disturbed-point r {s} {α} {x} {d} w p = record {
     off = n .off +ℚ d i;
     small = within-+ (n .small) (w i h);
     is = ap (_+ℚ d i) (n .is) ∙ +ℚ-assoc (valueAt s α (p .numbers) i) (n .off) (d i);
-  }) refl (added-radius (s .radii) r i);
+  }) refl (added-radius (radius s i) (getD r i 0) (radius-disturbed (s .radii) r i));
 }

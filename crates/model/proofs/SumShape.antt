@@ -1,5 +1,5 @@
 -- A sum before finishing has the shape of its summands, written for the identifiers of both, and each of its terms has a factor.
-use mathlib.Core.Path.{_≡_, refl, sym, _∙_, ap}
+use mathlib.Core.Path.{_≡_, refl, sym, _∙_, ap, subst}
 use mathlib.Core.List.{List, [], _∷_}
 use mathlib.Core.Bool.{Bool, true, false, cond, _&&_}
 use Prim.Native.Nat.{ℕ, zero, suc, _+_, _<_, _≤_}
@@ -15,6 +15,7 @@ use Rattle.model.specs.Set.{Zonotope}
 use Rattle.model.specs.Valid.{factorless}
 use Rattle.model.specs.Operations.{union, align, aligned, joined, renumbered, disturb}
 use Rattle.model.proofs.Vectors.{longer-length}
+use Rattle.model.proofs.Radii.{PartsLong, plus-long}
 use Rattle.model.proofs.Lists.{Rising, nothing, first, all-both}
 use Rattle.model.proofs.Tests.{all-tab, true-rises}
 use Rattle.model.proofs.Shape.{Row, Shaped}
@@ -70,8 +71,7 @@ joined-ready {s} {u} a b e =
       shaped = record {
         centre-long = longer-length _+ℤ_ (s .centre) (u .centre) (a .shaped .centre-long ∙ sym e ∙ sym (b .shaped .centre-long))
             ∙ a .shaped .centre-long;
-        radii-long = longer-length _+_ (s .radii) (u .radii) (a .shaped .radii-long ∙ sym e ∙ sym (b .shaped .radii-long))
-            ∙ a .shaped .radii-long;
+        radii-long = plus-long (a .shaped .radii-long) (subst (λ n. PartsLong n (u .radii)) e (b .shaped .radii-long));
         rows = All-++ (aligned-rows ms s (a .shaped) refl) (aligned-rows ms u (b .shaped) e);
         generators-long = All-++ (a .shaped .generators-long) (All-imp (λ g h. h ∙ e) (b .shaped .generators-long));
       };
@@ -120,7 +120,12 @@ pub disturbed-shaped : (r : List ℕ) {s : Zonotope} → length r ≡ s .dimensi
 unfolding disturb
 disturbed-shaped r {s} e h = record {
   centre-long = h .centre-long;
-  radii-long = longer-length _+_ (s .radii) r (h .radii-long ∙ sym e) ∙ h .radii-long;
+  radii-long = record {
+    carried-long = h .radii-long .carried-long;
+    rounded-long = h .radii-long .rounded-long;
+    folded-long = h .radii-long .folded-long;
+    given-long = longer-length _+_ (s .radii .given) r (h .radii-long .given-long ∙ sym e) ∙ h .radii-long .given-long;
+  };
   rows = h .rows;
   generators-long = h .generators-long;
 }

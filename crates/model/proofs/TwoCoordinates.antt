@@ -11,19 +11,20 @@ use Rattle.whole.specs.Round.{round, exact, inexact}
 use Rattle.whole.specs.Sum.{sumBy, uptoBy}
 use Rattle.whole.specs.Tab.{tab, any, all}
 use Rattle.rational.specs.Power.{even}
-use Rattle.model.specs.Set.{Term, Zonotope, termSizes, generatorSizes, span, longer}
+use Rattle.model.specs.Set.{Term, Zonotope, termSizes, generatorSizes, span, longer, radiusOf}
 use Rattle.model.specs.Valid.{order, rises, badRange, badOrder, tooWide}
-use Rattle.model.specs.Finish.{insert, collectInto, those, shift, growth, foldVector, foldAll, size, smallest, foldSmallest}
+use Rattle.model.specs.Finish.{insert, collectInto, those, shift, growth, foldVector, foldAll, size, smallest, foldSmallest, folds}
 use Rattle.model.specs.Finish.{foldTimes, keepAt, collectTerms, dropZeroTerms, dropZeroGenerators, foldHigh, foldTerms}
 use Rattle.model.specs.Finish.{foldGenerators, dropUnused, finish}
 use Rattle.model.specs.Step.{dot, bilinear, rawCentre, rawLinear, rawSquare, rawPair, pairs, remainder, raw, inexactAt}
-use Rattle.model.specs.Step.{roundedRadius, rounded, step}
-use Rattle.model.specs.Operations.{insertIdentifier, union, align, joined, tiedSum, renumbered, independentSum, least, greatest, lowEnd}
+use Rattle.model.specs.Step.{carriedAt, roundedAt, rounded, step}
+use Rattle.model.specs.Operations.{insertIdentifier, union, align, joined, tiedSum, renumbered, independentSum, least, greatest}
+use Rattle.model.specs.Operations.{lowEnd}
 use Rattle.model.specs.Operations.{highEnd, box, lowAlong, safe, disturb, reduce}
 use Rattle.model.specs.Bytes.{number, word, long}
 use Rattle.model.specs.Body.{givenSet, givenStep, givenHalfspaces, givenRadii}
 use Rattle.model.specs.Field.{Outcome, inside, verdict, refused, meaning}
-use Rattle.model.specs.Run.{Answer, State, begin, kindOf, firstOf, misplaced, cut, causes, after, outcome, answers, fields}
+use Rattle.model.specs.Run.{Answer, State, begin, kindOf, firstOf, misplaced, cut, causes, after, outcome, answers, fields, withFolds}
 use Rattle.model.specs.Run.{fieldsWithin, run}
 use Rattle.model.proofs.Written.{bytes, signed, words, field}
 
@@ -83,19 +84,23 @@ said n o = record { field = n; outcome = o }
 abbrev term : List ℕ → ℤ → ℤ → Term
 term e g h = record { exponents = e; coefficients = two g h }
 
+-- S of the step is 1.7 and 2.5 units, and 11 of its roundings at each coordinate are inexact; the reduction folds (1, 4)·β and the
+-- generator (2, 2); the disturbance and the tied sum give 3 and 1
 abbrev left : State
 left = record {
   set = some (record {
     dimension = 2;
     identifiers = 3 ∷ 7 ∷ 65536 ∷ [];
     centre = two (pos 101) (negsuc 117);
-    terms = term (0 ∷ 0 ∷ 1 ∷ []) (pos 5) (pos 1) ∷ term (1 ∷ 0 ∷ 0 ∷ []) (pos 41) (negsuc 20) ∷ term (2 ∷ 2 ∷ 0 ∷ []) (negsuc 4) (pos 12) ∷ [];
+    terms = term (0 ∷ 0 ∷ 1 ∷ []) (pos 5) (pos 1) ∷ term (1 ∷ 0 ∷ 0 ∷ []) (pos 41) (negsuc 20) ∷ term (2 ∷ 2 ∷ 0 ∷ []) (negsuc 4) (pos
+        12) ∷ [];
     generators = two (pos 7) (negsuc 1) ∷ [];
-    radii = two 11 19;
+    radii = record { carried = two 2 3; rounded = two 6 6; folded = two 3 6; given = two 0 4 };
   });
   next = 65537;
   count = 7;
   over = true;
+  folded = 3 ∷ 6 ∷ 0 ∷ 0 ∷ 0 ∷ 0 ∷ [];
 }
 
 pub two-coordinates :
@@ -110,10 +115,10 @@ pub two-coordinates :
     ∷ said 7 (refused 2 264)
     ∷ [])
     × (run (fields input) begin ≡ left)
-unfolding answers outcome after run causes firstOf misplaced cut kindOf fields fieldsWithin meaning number word long givenSet givenStep
-    givenHalfspaces givenRadii badRange badOrder tooWide span termSizes generatorSizes rises order sumBy uptoBy tab any all step rounded raw
-    rawCentre rawLinear rawSquare rawPair pairs remainder inexactAt roundedRadius dot bilinear round exact inexact independentSum tiedSum
-    renumbered joined union insertIdentifier align disturb reduce finish dropUnused foldGenerators foldTerms foldHigh dropZeroGenerators
-    dropZeroTerms collectTerms insert collectInto those foldAll foldVector shift growth foldTimes foldSmallest smallest size keepAt longer
-    even half halfSize box lowEnd highEnd least greatest lowAlong safe
+unfolding answers outcome after withFolds folds run causes firstOf misplaced cut kindOf fields fieldsWithin meaning number word long
+    givenSet givenStep givenHalfspaces givenRadii badRange badOrder tooWide span termSizes generatorSizes radiusOf rises order sumBy
+    uptoBy tab any all step rounded raw rawCentre rawLinear rawSquare rawPair pairs remainder inexactAt carriedAt roundedAt dot bilinear
+    round exact inexact independentSum tiedSum renumbered joined union insertIdentifier align disturb reduce finish dropUnused
+    foldGenerators foldTerms foldHigh dropZeroGenerators dropZeroTerms collectTerms insert collectInto those foldAll foldVector shift
+    growth foldTimes foldSmallest smallest size keepAt longer even half halfSize box lowEnd highEnd least greatest lowAlong safe
 two-coordinates = (refl, refl)

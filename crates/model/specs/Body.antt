@@ -3,7 +3,7 @@ use mathlib.Core.List.{List, map}
 use Prim.Native.Nat.{ℕ, _+_, _*_}
 use lib.IntN.{ℤ, natAbs}
 use Rattle.whole.specs.Tab.{tab}
-use Rattle.model.specs.Set.{Zonotope}
+use Rattle.model.specs.Set.{Zonotope, givenOnly}
 use Rattle.model.specs.Step.{Step}
 use Rattle.model.specs.Ranged.{Widths}
 use Rattle.model.specs.Operations.{Halfspace}
@@ -52,7 +52,7 @@ module _ (b : List ℕ) where
       coefficients = words b (termAt t + factors) dimension;
     });
     generators = tab generatorCount (λ g. words b (generatorAt g) dimension);
-    radii = map natAbs radiusWords;
+    radii = givenOnly dimension (map natAbs radiusWords);
   }
 
   -- ---- a step: m, n; c; A by rows; Q by forms, then rows

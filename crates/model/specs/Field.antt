@@ -1,6 +1,6 @@
 -- The kinds of field: what each asks of its body, in the order of the refusals, and what it gives. A later kind is one more clause of
 -- `meaning`.
-use mathlib.Core.List.{List}
+use mathlib.Core.List.{List, []}
 use mathlib.Core.Bool.{Bool, false, not, _||_}
 use Prim.Native.Nat.{ℕ, _+_, _*_}
 use lib.Dec.{ltb, eqb}
@@ -11,10 +11,11 @@ use Rattle.whole.specs.Tab.{tab, any}
 use Rattle.model.specs.Limits.{maxDimension, maxFactors, maxTerms, maxGenerators, maxHalfspaces, maxEntry, maxConstant}
 use Rattle.model.specs.Limits.{maxDisturbance, maxBound, fileIdentifiers, standardWeights}
 use Rattle.model.specs.Set.{Zonotope, at}
+use Rattle.model.specs.Finish.{folds}
 use Rattle.model.specs.Valid.{badRange, badOrder, tooWide}
 use Rattle.model.specs.Step as Step
 use Rattle.model.specs.Ranged as Ranged
-use Rattle.model.specs.Operations.{tiedSum, independentSum, renumbered, union, disturb, reduce, Box, box, safe}
+use Rattle.model.specs.Operations.{joined, tiedSum, independentSum, renumbered, union, disturb, reduce, Box, box, safe}
 use Rattle.model.specs.Hull as Hull
 use Rattle.model.specs.Body.{dimension, factors, termCount, generatorCount, setLength, radiusWords, givenSet, stepRows, stepColumns}
 use Rattle.model.specs.Body.{stepLength, givenStep, disturbanceWords, givenRadii, termLimit, generatorLimit, halfspaceCount}
@@ -52,6 +53,8 @@ pub record Meaning : Type 0 where
   pub manyFactors : Bool
   -- 10: the result is too wide
   pub result : Zonotope
+  -- what folding added to each coordinate's radius, where the result was finished
+  pub folds : List ℕ
   -- the next fresh identifier afterwards
   pub next : ℕ
   -- what is answered where no cause holds
@@ -87,8 +90,8 @@ abbrev pub negativeWidth : List ℕ → Bool
 negativeWidth b = any negative (linearWidthWords b) || any negative (quadraticWidthWords b)
 
 -- a field whose body is a set, by what the kind adds
-abbrev pub ofSet : List ℕ → Bool → Bool → Zonotope → ℕ → Meaning
-ofSet b wrongDimension manyFactors result next = record {
+abbrev pub ofSet : List ℕ → Bool → Bool → Zonotope → List ℕ → ℕ → Meaning
+ofSet b wrongDimension manyFactors result folds next = record {
   countBytes = 4;
   wrongCounts = badDimension (dimension b) || ltb maxFactors (factors b) || ltb maxTerms (termCount b) || ltb maxGenerators
       (generatorCount b);
@@ -99,13 +102,14 @@ ofSet b wrongDimension manyFactors result next = record {
   wide = tooWide (givenSet b);
   manyFactors = manyFactors;
   result = result;
+  folds = folds;
   next = next;
   outcome = inside (box result);
 }
 
 -- a field whose body begins with a step, by what the kind adds
-abbrev pub ofStepBody : List ℕ → ℕ → Bool → Zonotope → ℕ → Zonotope → Meaning
-ofStepBody b bytes outOfRange s next result = record {
+abbrev pub ofStepBody : List ℕ → ℕ → Bool → Zonotope → ℕ → Zonotope → List ℕ → Meaning
+ofStepBody b bytes outOfRange s next result folds = record {
   countBytes = 2;
   wrongCounts = badDimension (stepRows b) || badDimension (stepColumns b);
   bytes = bytes;
@@ -115,6 +119,7 @@ ofStepBody b bytes outOfRange s next result = record {
   wide = false;
   manyFactors = false;
   result = result;
+  folds = folds;
   next = next;
   outcome = inside (box result);
 }
@@ -127,23 +132,30 @@ tooMany s u = ltb maxFactors (length (union (s .identifiers) (u .identifiers)))
 abbrev pub tooManyBlended : Zonotope → Zonotope → Bool
 tooManyBlended s u = ltb maxFactors (length (union (s .identifiers) (u .identifiers)) + 1)
 
+-- what folding adds to the radii of a result that is finished to the limits of a set
+abbrev pub foldsOf : Zonotope → List ℕ
+foldsOf unfinished = folds standardWeights maxTerms maxGenerators unfinished
+
 -- ---- the kinds
 unfoldable pub meaning : Kind → List ℕ → ℕ → Zonotope → Meaning
-meaning start b next s = ofSet b false false (givenSet b) next
+meaning start b next s = ofSet b false false (givenSet b) [] next
 meaning tied b next s =
-    ofSet b (differs (dimension b) (s .dimension)) (tooMany s (givenSet b)) (tiedSum standardWeights s (givenSet b)) next
+    ofSet b (differs (dimension b) (s .dimension)) (tooMany s (givenSet b)) (tiedSum standardWeights s (givenSet b))
+    (foldsOf (joined s (givenSet b))) next
 meaning independent b next s =
     ofSet b (differs (dimension b) (s .dimension)) (tooMany s (renumbered next (givenSet b)))
-    (independentSum standardWeights next s (givenSet b)) (next + factors b)
+    (independentSum standardWeights next s (givenSet b)) (foldsOf (joined s (renumbered next (givenSet b)))) (next + factors b)
 meaning hull b next s =
     ofSet b (differs (dimension b) (s .dimension)) (tooManyBlended s (givenSet b))
-    (Hull.hull standardWeights next s (givenSet b)) (next + 1)
+    (Hull.hull standardWeights next s (givenSet b)) (foldsOf (Step.rounded (Hull.blended next s (givenSet b)))) (next + 1)
 meaning step b next s =
     ofStepBody b (stepLength b) (badStepRange (givenStep b)) s next (Step.step standardWeights (givenStep b) s)
+    (foldsOf (Step.rounded (Step.raw (givenStep b) s)))
 meaning rangedStep b next s =
     ofStepBody b (rangedLength b)
     (badStepRange (givenStep b) || (negativeWidth b || badWidthRange (givenStep b) (givenWidths b))) s next
     (Ranged.rangedStep standardWeights (givenStep b) (givenWidths b) s)
+    (foldsOf (Step.rounded (Ranged.rangedRaw (givenStep b) (givenWidths b) s)))
 meaning disturbance b next s = let result = disturb (givenRadii b) s in record {
   countBytes = 1;
   wrongCounts = badDimension (dimension b);
@@ -154,6 +166,7 @@ meaning disturbance b next s = let result = disturb (givenRadii b) s in record {
   wide = false;
   manyFactors = false;
   result = result;
+  folds = [];
   next = next;
   outcome = inside (box result);
 }
@@ -167,6 +180,7 @@ meaning reduction b next s = let result = reduce standardWeights (termLimit b) (
   wide = false;
   manyFactors = false;
   result = result;
+  folds = folds standardWeights (termLimit b) (generatorLimit b) s;
   next = next;
   outcome = inside (box result);
 }
@@ -180,6 +194,7 @@ meaning check b next s = record {
   wide = false;
   manyFactors = false;
   result = s;
+  folds = [];
   next = next;
   outcome = verdict (safe (givenHalfspaces b) s);
 }
@@ -194,6 +209,7 @@ meaning unknown b next s = record {
   wide = false;
   manyFactors = false;
   result = s;
+  folds = [];
   next = next;
   outcome = skipped;
 }

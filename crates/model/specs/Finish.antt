@@ -9,7 +9,7 @@ use Rattle.whole.specs.Half.{half, halfSize}
 use Rattle.whole.specs.Tab.{any, all}
 use Rattle.rational.specs.Power.{even}
 use Rattle.model.specs.Limits.{maxExponent}
-use Rattle.model.specs.Set.{Term, Zonotope, plusℤ, plusℕ}
+use Rattle.model.specs.Set.{Term, Zonotope, plusℤ, plusℕ, withFolded}
 use Rattle.model.specs.Valid.{Order, less, equal, greater, order, zeros, occurs}
 
 -- ---- collecting: each term in turn goes to its place in a list that rises, or is added where its exponents stand already
@@ -37,7 +37,7 @@ unfoldable pub those : {A : Type 0} → (A → Bool) → List A → List A
 those p [] = []
 those p (a ∷ l) = cond (p a) (a ∷ those p l) (those p l)
 
--- ---- folding: a term or a generator leaves the set, and the centre and radii make up for it
+-- ---- folding: a term or a generator leaves the set, and the centre and radii make up for it; of the radii, the folded parts
 pub record Core : Type 0 where
   pub centre : List ℤ
   pub radii : List ℕ
@@ -121,9 +121,9 @@ abbrev pub keepExponents : (ℕ → Bool) → Term → Term
 keepExponents p t = record { exponents = keepAt p 0 (t .exponents); coefficients = t .coefficients }
 
 -- ---- the stages, in document 01's order
--- centre and radii of a set
+-- what folding changes of a set: its centre and the folded parts of its radii
 abbrev pub core : Zonotope → Core
-core s = record { centre = s .centre; radii = s .radii }
+core s = record { centre = s .centre; radii = s .radii .folded }
 
 -- the set after some of its terms, or of its generators, were folded
 abbrev pub withTerms : Zonotope → Folded Term → Zonotope
@@ -133,7 +133,7 @@ withTerms s f = record {
   centre = f .core .centre;
   terms = f .kept;
   generators = s .generators;
-  radii = f .core .radii;
+  radii = withFolded (s .radii) (f .core .radii);
 }
 
 abbrev pub withGenerators : Zonotope → Folded (List ℤ) → Zonotope
@@ -143,7 +143,7 @@ withGenerators s f = record {
   centre = f .core .centre;
   terms = s .terms;
   generators = f .kept;
-  radii = f .core .radii;
+  radii = withFolded (s .radii) (f .core .radii);
 }
 
 -- other terms, and all else as it is
@@ -201,3 +201,14 @@ unfoldable pub finish : List ℕ → ℕ → ℕ → Zonotope → Zonotope
 finish weights termLimit generatorLimit s =
     dropUnused (foldGenerators weights generatorLimit (foldTerms weights termLimit (foldHigh
     (dropZeroGenerators (dropZeroTerms (collectTerms s))))))
+
+-- what folding adds to each coordinate's radius there: the folded parts that finishing leaves where there were none before
+unfoldable pub folds : List ℕ → ℕ → ℕ → Zonotope → List ℕ
+folds weights termLimit generatorLimit s = finish weights termLimit generatorLimit (record {
+  dimension = s .dimension;
+  identifiers = s .identifiers;
+  centre = s .centre;
+  terms = s .terms;
+  generators = s .generators;
+  radii = withFolded (s .radii) [];
+}) .radii .folded

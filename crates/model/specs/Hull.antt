@@ -8,7 +8,7 @@ use lib.ListN.{length, replicate}
 use lib.IntN.{ℤ, pos, negℤ, _*ℤ_}
 use Rattle.whole.specs.Round.{scale}
 use Rattle.whole.specs.Tab.{tab}
-use Rattle.model.specs.Set.{Term, Zonotope, independentSize}
+use Rattle.model.specs.Set.{Term, Zonotope, independentSize, carriedOnly}
 use Rattle.model.specs.Step.{settled}
 use Rattle.model.specs.Operations.{joined}
 
@@ -49,7 +49,7 @@ blended next s u =
           record { exponents = replicate (length (sum .identifiers)) 0 ++ (1 ∷ []); coefficients = halved (difference .centre) }
           ∷ (map (blend 0) (sum .terms) ++ map (blend 1) (difference .terms));
       generators = [];
-      radii = tab (s .dimension) (λ i. scale * larger (independentSize s i) (independentSize u i));
+      radii = carriedOnly (s .dimension) (tab (s .dimension) (λ i. scale * larger (independentSize s i) (independentSize u i)));
     }
 
 -- ---- 2. each is rounded, and the result finished

@@ -16,6 +16,7 @@
 --     Marked       the table of marked cases
 --     Points       the points of a set at given factor values
 --     Motion       what a motion is, and what is claimed of every motion (demand 3)
+--     Origin       where the radii come from, and what is claimed of that
 --     Precision    how close the results are to the true points, and what is claimed of that (demand 2)
 --     Between      what is claimed of a hull
 pub mod Limits
@@ -37,5 +38,6 @@ pub mod Pairs
 pub mod Marked
 pub mod Points
 pub mod Motion
+pub mod Origin
 pub mod Precision
 pub mod Between

@@ -24,7 +24,7 @@ pub record Given : Type 0 where
   pub set : Zonotope
   pub spare : Bool
 
--- ---- a set that is given: 4, 6, 7, 8
+-- ---- a set that is given: 4, 6, 7, 8; 6 asks nothing of the radii, as a record's type leaves no negative part
 abbrev pub ofFirst : Given → List Cause
 ofFirst g = (4 if badCounts (g .set)) ∷ (6 if badRange recordIdentifiers (g .set)) ∷ (7 if g .spare || badOrder (g .set)) ∷
     (8 if tooWide (g .set)) ∷ []

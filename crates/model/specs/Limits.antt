@@ -63,6 +63,10 @@ lastField = 4096
 abbrev pub lastTag : ℕ
 lastTag = 9
 
+-- the most that folding can add to a radius in a run: the largest span in each of the 4,096 fields that may follow the start set
+abbrev pub maxTotal : ℕ
+maxTotal = 4294967296
+
 -- ---- reduction
 -- what a coordinate weighs in a term's size, by its place: our models alternate position and speed
 abbrev pub standardWeights : List ℕ

@@ -6,7 +6,7 @@ use Prim.Native.Nat.{ℕ}
 use lib.IntN.{ℤ, pos, negsuc}
 use Rattle.whole.specs.Round.{round}
 use Rattle.model.specs.Limits.{standardWeights}
-use Rattle.model.specs.Set.{Term, Zonotope}
+use Rattle.model.specs.Set.{Term, Zonotope, Radii}
 use Rattle.model.specs.Finish.{Core, foldTerm}
 use Rattle.model.specs.Step.{Step, step}
 use Rattle.model.specs.Run.{begin, refusal}
@@ -20,13 +20,17 @@ term e g = record { exponents = e ∷ []; coefficients = g ∷ [] }
 abbrev pub about : ℤ → ℕ → Core
 about k r = record { centre = k ∷ []; radii = r ∷ [] }
 
--- a set with the centre 0, one term and a radius
-abbrev pub single : Term → ℕ → Zonotope
-single t r = record { dimension = 1; identifiers = 1 ∷ []; centre = pos 0 ∷ []; terms = t ∷ []; generators = []; radii = r ∷ [] }
+-- a radius of which r is from rounding and f from folding
+abbrev pub from : ℕ → ℕ → Radii
+from r f = record { carried = 0 ∷ []; rounded = r ∷ []; folded = f ∷ []; given = 0 ∷ [] }
+
+-- a set with the centre 0, one term and the radius 0
+abbrev pub single : Term → Zonotope
+single t = record { dimension = 1; identifiers = 1 ∷ []; centre = pos 0 ∷ []; terms = t ∷ []; generators = []; radii = from 0 0 }
 
 -- a set without factors
-abbrev pub plain : ℤ → ℕ → Zonotope
-plain k r = record { dimension = 1; identifiers = []; centre = k ∷ []; terms = []; generators = []; radii = r ∷ [] }
+abbrev pub plain : ℤ → Radii → Zonotope
+plain k r = record { dimension = 1; identifiers = []; centre = k ∷ []; terms = []; generators = []; radii = r }
 
 -- the step with the entries a of A and q of Q
 abbrev pub scalar : ℤ → ℤ → Step
@@ -46,10 +50,10 @@ pub record MarkedTable : Type 0 where
   -- fold 3α²: centre +1, radius 2; -3α²: centre -1, radius 2
   pub folds-even : foldTerm (term 2 (pos 3)) (about (pos 0) 0) ≡ about (pos 1) 2
   pub folds-negative : foldTerm (term 2 (negsuc 2)) (about (pos 0) 0) ≡ about (negsuc 0) 2
-  -- the term 1·α with A = 2048: radius 1 alone
-  pub halves-term : step standardWeights (scalar (pos 2048) (pos 0)) (single (term 1 (pos 1)) 0) ≡ plain (pos 0) 1
+  -- the term 1·α with A = 2048: radius 1 alone, of rounding
+  pub halves-term : step standardWeights (scalar (pos 2048) (pos 0)) (single (term 1 (pos 1))) ≡ plain (pos 0) (from 1 0)
   -- centre 1,048,575 with coefficient 1 accepted; 1,048,576 with 1 gives 8
   pub widest : refusal begin (started (255 ∷ 255 ∷ 15 ∷ 0 ∷ [])) ≡ none
   pub too-wide : refusal begin (started (0 ∷ 0 ∷ 16 ∷ 0 ∷ [])) ≡ some 8
-  -- exponents 32 + 32 fold as even: 4096·α³² squared is 4096·α⁶⁴, so centre 2048 and radius 2048
-  pub folds-high : step standardWeights (scalar (pos 0) (pos 4096)) (single (term 32 (pos 4096)) 0) ≡ plain (pos 2048) 2048
+  -- exponents 32 + 32 fold as even: 4096·α³² squared is 4096·α⁶⁴, so centre 2048 and radius 2048, of folding
+  pub folds-high : step standardWeights (scalar (pos 0) (pos 4096)) (single (term 32 (pos 4096))) ≡ plain (pos 2048) (from 0 2048)

@@ -9,7 +9,7 @@ use lib.Signed.{ltZ}
 use Rattle.whole.specs.Sum.{sumℕ, sumℤ, uptoℕ}
 use Rattle.whole.specs.Tab.{tab, any}
 use Rattle.model.specs.Limits.{maxTerms, maxGenerators}
-use Rattle.model.specs.Set.{Term, Zonotope, at, radius, plusℤ, plusℕ}
+use Rattle.model.specs.Set.{Term, Zonotope, at, radius, plusℤ, plusℕ, plusRadii}
 use Rattle.model.specs.Finish.{finish, allEven}
 use Rattle.model.specs.Step.{dot}
 
@@ -42,7 +42,7 @@ joined s u = let ms = union (s .identifiers) (u .identifiers) in record {
   centre = plusℤ (s .centre) (u .centre);
   terms = aligned ms s ++ aligned ms u;
   generators = s .generators ++ u .generators;
-  radii = plusℕ (s .radii) (u .radii);
+  radii = plusRadii (s .radii) (u .radii);
 }
 
 unfoldable pub tiedSum : List ℕ → Zonotope → Zonotope → Zonotope
@@ -64,6 +64,7 @@ unfoldable pub independentSum : List ℕ → ℕ → Zonotope → Zonotope → Z
 independentSum weights next s u = tiedSum weights s (renumbered next u)
 
 -- ---- disturbance and reduction
+-- the radii of a disturbance join the given parts
 unfoldable pub disturb : List ℕ → Zonotope → Zonotope
 disturb r s = record {
   dimension = s .dimension;
@@ -71,7 +72,12 @@ disturb r s = record {
   centre = s .centre;
   terms = s .terms;
   generators = s .generators;
-  radii = plusℕ (s .radii) r;
+  radii = record {
+    carried = s .radii .carried;
+    rounded = s .radii .rounded;
+    folded = s .radii .folded;
+    given = plusℕ (s .radii .given) r;
+  };
 }
 
 unfoldable pub reduce : List ℕ → ℕ → ℕ → Zonotope → Zonotope

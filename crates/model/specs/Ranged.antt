@@ -31,9 +31,16 @@ module _ (n : ℕ) (d : Widths) where
       + uptoℕ (λ j. uptoℕ (λ l. quadraticWidth i j l * (span s j * span s l)) n) n
 
 -- the step where S gains these numbers, by coordinate, before its one rounding up
+abbrev pub gainingRaw : (ℕ → ℕ) → Step → Zonotope → Zonotope
+gainingRaw gains p s = disturb (tab (p .rows) gains) (raw p s)
+
 unfoldable pub gainingStep : List ℕ → (ℕ → ℕ) → Step → Zonotope → Zonotope
-gainingStep weights gains p s = settled weights (disturb (tab (p .rows) gains) (raw p s))
+gainingStep weights gains p s = settled weights (gainingRaw gains p s)
 
 -- the image under every step whose entries are within the half-widths
 unfoldable pub rangedStep : List ℕ → Step → Widths → Zonotope → Zonotope
 rangedStep weights p d s = gainingStep weights (gain (p .columns) d s) p s
+
+-- before rounding
+abbrev pub rangedRaw : Step → Widths → Zonotope → Zonotope
+rangedRaw p d s = gainingRaw (gain (p .columns) d s) p s

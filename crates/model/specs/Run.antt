@@ -4,28 +4,37 @@ use mathlib.Core.Option.{Option, none, some, Option·getD}
 use mathlib.Core.Bool.{Bool, true, false, not, cond, _||_}
 use Prim.Native.Nat.{ℕ, zero, suc, _+_}
 use lib.Dec.{ltb, eqb}
-use lib.ListN.{length, take, drop}
-use Rattle.model.specs.Limits.{firstFresh, lastField, lastTag}
-use Rattle.model.specs.Set.{Zonotope}
+use lib.ListN.{length, take, drop, getD}
+use Rattle.whole.specs.Tab.{tab}
+use Rattle.model.specs.Limits.{firstFresh, lastField, lastTag, maxDimension}
+use Rattle.model.specs.Set.{Zonotope, blank}
 use Rattle.model.specs.Valid.{tooWide}
 use Rattle.model.specs.Bytes.{byte, number}
 use Rattle.model.specs.Field.{Kind, start, step, disturbance, independent, tied, reduction, check, hull, rangedStep, unknown}
 use Rattle.model.specs.Field.{Outcome, refused, skipped, Meaning, meaning}
 
 -- ---- the state: the current set, if any; the next fresh identifier (document 01: the mark); how many fields were accepted; whether one
--- was refused
+-- was refused; for each of the most coordinates what folding added to its radius in the accepted fields
 pub record State : Type 0 where
   pub set : Option Zonotope
   pub next : ℕ
   pub count : ℕ
   pub over : Bool
+  pub folded : List ℕ
 
 abbrev pub begin : State
-begin = record { set = none; next = firstFresh; count = 0; over = false }
+begin = record { set = none; next = firstFresh; count = 0; over = false; folded = blank maxDimension }
 
 -- the current set; without one, a set of no coordinates, at which no accepted field looks
 abbrev pub noSet : Zonotope
-noSet = record { dimension = 0; identifiers = []; centre = []; terms = []; generators = []; radii = [] }
+noSet = record {
+  dimension = 0;
+  identifiers = [];
+  centre = [];
+  terms = [];
+  generators = [];
+  radii = record { carried = []; rounded = []; folded = []; given = [] };
+}
 
 abbrev pub current : State → Zonotope
 current st = Option·getD (st .set) noSet
@@ -105,13 +114,27 @@ refusal st f = firstOf (causes st f)
 unfoldable pub accepted : State → List ℕ → Bool
 accepted st f = cond (st .over) false (elim (refusal st f) [ none ↦ true | some n ↦ false ])
 
--- an accepted field leaves its result; a refused one leaves the set and ends the run; after that nothing changes
+-- the totals of what folding added, with what it adds in one more field
+unfoldable pub withFolds : List ℕ → List ℕ → List ℕ
+withFolds totals folds = tab maxDimension (λ i. getD totals i 0 + getD folds i 0)
+
+-- what an accepted field leaves: its result, and its folds in the totals
+abbrev pub acceptedBy : State → Meaning → State
+acceptedBy st m = record {
+  set = some (m .result);
+  next = m .next;
+  count = st .count + 1;
+  over = false;
+  folded = withFolds (st .folded) (m .folds);
+}
+
+-- what a refused one leaves: all that there was, and the run is over
+abbrev pub refusedAt : State → State
+refusedAt st = record { set = st .set; next = st .next; count = st .count; over = true; folded = st .folded }
+
+-- after a refusal nothing changes
 unfoldable pub after : State → List ℕ → State
-after st f =
-    cond (st .over) st (elim (refusal st f) [
-      | none ↦ record { set = some (meant st f .result); next = meant st f .next; count = st .count + 1; over = false }
-      | some n ↦ record { set = st .set; next = st .next; count = st .count; over = true }
-    ])
+after st f = cond (st .over) st (elim (refusal st f) [ none ↦ acceptedBy st (meant st f) | some n ↦ refusedAt st ])
 
 -- what is answered for a field whose first byte is at `place`
 unfoldable pub outcome : ℕ → State → List ℕ → Outcome

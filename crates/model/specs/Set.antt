@@ -5,28 +5,40 @@ use Prim.Native.Nat.{ℕ, _+_}
 use lib.ListN.{getD}
 use lib.IntN.{ℤ, pos, natAbs, _+ℤ_}
 use Rattle.whole.specs.Sum.{sumℕ}
+use Rattle.whole.specs.Tab.{tab}
 
 -- a monomial in the factors, one exponent each, with a coefficient for each coordinate
 pub record Term : Type 0 where
   pub exponents : List ℕ
   pub coefficients : List ℤ
 
--- factors are told apart by identifiers; a radius (document 01: the skirt) bounds a coordinate's offset
+-- the radii (document 01: the skirt) by where they came from, each part with a number for each coordinate: what a step or a hull carried
+-- on, what rounding added, what folding added, and what a set or a disturbance gave
+pub record Radii : Type 0 where
+  pub carried : List ℕ
+  pub rounded : List ℕ
+  pub folded : List ℕ
+  pub given : List ℕ
+
+-- factors are told apart by identifiers; a radius bounds a coordinate's offset
 pub record Zonotope : Type 0 where
   pub dimension : ℕ
   pub identifiers : List ℕ
   pub centre : List ℤ
   pub terms : List Term
   pub generators : List (List ℤ)
-  pub radii : List ℕ
+  pub radii : Radii
 
 -- the number at place i of a vector, 0 past its end
 abbrev pub at : List ℤ → ℕ → ℤ
 at v i = getD v i (pos 0)
 
--- the radius of coordinate i
+-- the radius of coordinate i: its parts together
+unfoldable pub radiusOf : Radii → ℕ → ℕ
+radiusOf r i = getD (r .carried) i 0 + getD (r .rounded) i 0 + getD (r .folded) i 0 + getD (r .given) i 0
+
 abbrev pub radius : Zonotope → ℕ → ℕ
-radius s i = getD (s .radii) i 0
+radius s i = radiusOf (s .radii) i
 
 -- the sizes at coordinate i of all terms together, and of all generators together
 unfoldable pub termSizes : Zonotope → ℕ → ℕ
@@ -54,3 +66,28 @@ plusℤ u v = longer _+ℤ_ u v
 
 abbrev pub plusℕ : List ℕ → List ℕ → List ℕ
 plusℕ u v = longer _+_ u v
+
+-- ---- radii by their parts
+-- sums of like parts
+abbrev pub plusRadii : Radii → Radii → Radii
+plusRadii r q = record {
+  carried = plusℕ (r .carried) (q .carried);
+  rounded = plusℕ (r .rounded) (q .rounded);
+  folded = plusℕ (r .folded) (q .folded);
+  given = plusℕ (r .given) (q .given);
+}
+
+-- with other folded parts
+abbrev pub withFolded : Radii → List ℕ → Radii
+withFolded r f = record { carried = r .carried; rounded = r .rounded; folded = f; given = r .given }
+
+-- 0 for each of n coordinates
+abbrev pub blank : ℕ → List ℕ
+blank n = tab n (λ i. 0)
+
+-- of n coordinates: all of it carried, and all of it given
+abbrev pub carriedOnly : ℕ → List ℕ → Radii
+carriedOnly n r = record { carried = r; rounded = blank n; folded = blank n; given = blank n }
+
+abbrev pub givenOnly : ℕ → List ℕ → Radii
+givenOnly n r = record { carried = blank n; rounded = blank n; folded = blank n; given = r }

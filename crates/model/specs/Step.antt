@@ -6,7 +6,7 @@ use Rattle.whole.specs.Round.{scale, round, inexact}
 use Rattle.whole.specs.Sum.{sumℕ, uptoℕ, uptoℤ}
 use Rattle.whole.specs.Tab.{tab}
 use Rattle.model.specs.Limits.{maxTerms, maxGenerators}
-use Rattle.model.specs.Set.{Term, Zonotope, at, radius, termSizes, independentSize, plusℕ}
+use Rattle.model.specs.Set.{Term, Zonotope, at, radius, termSizes, independentSize, plusℕ, blank, carriedOnly}
 use Rattle.model.specs.Finish.{finish}
 
 -- from `columns` coordinates to `rows`: c, then A by rows, then Q by forms and rows, each as one list. A and Q are in 1/4096
@@ -93,7 +93,7 @@ module _ (p : Step) (s : Zonotope) where
     centre = tab (p .rows) rawCentre;
     terms = map own (s .terms) ++ pairs (s .terms);
     generators = map (λ g. tab (p .rows) (rawLinear g)) (s .generators);
-    radii = tab (p .rows) remainder;
+    radii = carriedOnly (p .rows) (tab (p .rows) remainder);
   }
 
 -- ---- 2. each raw number is rounded
@@ -104,9 +104,12 @@ inexactAt s i =
     + sumℕ (λ t. inexact (at (t .coefficients) i)) (s .terms)
     + sumℕ (λ g. inexact (at g i)) (s .generators)
 
--- the remainder rounded up, and half of the count rounded up
-unfoldable pub roundedRadius : Zonotope → ℕ → ℕ
-roundedRadius s i = (radius s i + 16777215) / scale + (inexactAt s i + 1) / 2
+-- what is carried: the radius rounded up; and what rounding adds: half of the count rounded up
+unfoldable pub carriedAt : Zonotope → ℕ → ℕ
+carriedAt s i = (radius s i + 16777215) / scale
+
+unfoldable pub roundedAt : Zonotope → ℕ → ℕ
+roundedAt s i = (inexactAt s i + 1) / 2
 
 unfoldable pub rounded : Zonotope → Zonotope
 rounded s = record {
@@ -115,7 +118,12 @@ rounded s = record {
   centre = map round (s .centre);
   terms = map (λ t. record { exponents = t .exponents; coefficients = map round (t .coefficients) }) (s .terms);
   generators = map (map round) (s .generators);
-  radii = tab (s .dimension) (roundedRadius s);
+  radii = record {
+    carried = tab (s .dimension) (carriedAt s);
+    rounded = tab (s .dimension) (roundedAt s);
+    folded = blank (s .dimension);
+    given = blank (s .dimension);
+  };
 }
 
 -- ---- 3. the result is finished

@@ -1,5 +1,5 @@
 -- What the program `motion` prints, in bytes: numbers, lines, and the output of a whole input.
-use mathlib.Core.List.{List, [], _∷_, _++_}
+use mathlib.Core.List.{List, [], _∷_, _++_, map}
 use mathlib.Core.Bool.{Bool, true, false, cond}
 use Prim.Native.Nat.{ℕ, zero, suc, _+_, _-_, _/_, _%_}
 use Prim.Native.Char.{code}
@@ -67,6 +67,10 @@ verdictLine field tag safe = line (decimal field) (decimal tag ∷ verdictWord s
 unfoldable pub refusalLine : ℕ → ℕ → ℕ → List ℕ
 refusalLine field number place = line (decimal field) (ascii "refused" ∷ decimal number ∷ decimal place ∷ [])
 
+-- the line before the last: for each coordinate what folding added to its radius in the whole run
+unfoldable pub foldedLine : List ℕ → List ℕ
+foldedLine totals = line (ascii "folded") (map decimal totals)
+
 -- the last line of a run in which no field was refused: the number of the last accepted field
 unfoldable pub endLine : ℕ → List ℕ
 endLine field = line (ascii "end") (decimal field ∷ [])
@@ -85,7 +89,7 @@ lineOf tag a = outcomeLine (a .field) tag (a .outcome)
 -- ---- a run
 -- what is printed where no field is left: nothing after a refusal; an input has at least one field, so that else one was accepted
 unfoldable pub closing : State → List ℕ
-closing st = cond (st .over) [] (endLine (st .count - 1))
+closing st = cond (st .over) [] (foldedLine (st .folded) ++ endLine (st .count - 1))
 
 -- what is printed for the fields that are left, the first of which has its first byte at `place`
 unfoldable pub linesFrom : ℕ → State → List (List ℕ) → List ℕ
