@@ -25,6 +25,10 @@ exponentOut k = ltb maxExponent k
 abbrev pub columnSizes : List ℤ → ℕ → ℕ → ℕ
 columnSizes xs i rows = uptoℕ (λ t. natAbs (getD xs (t * 6 + i) (pos 0))) rows
 
+-- the most that a radius can be: four parts of 32 bits together
+abbrev pub mostRadius : ℕ
+mostRadius = 17179869180
+
 -- the span of coordinate i of a record with h terms and q generators: its centre's size, the sizes of its two columns, its radius
 abbrev pub spanAt : List ℤ → List ℤ → List ℤ → List ℕ → ℕ → ℕ → ℕ → ℕ
 spanAt centre coefficients vectors radii h q i =

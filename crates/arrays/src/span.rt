@@ -6,20 +6,20 @@ ghost use lib.IntN.{pos, natAbs};
 ghost use lib.ListN.{length, getD};
 ghost use Rattle.whole.specs.Tab.{tab};
 ghost use Rattle.whole.specs.Tests.{some-below};
-ghost use Rattle.arrays.specs.Rows.{columnSizes, spanAt};
+ghost use Rattle.arrays.specs.Rows.{columnSizes, mostRadius, spanAt};
 
 // Whether the span of one of the first n coordinates exceeds the limit: no point of the set is further from 0 than its span.
 pub fn too_wide<'a>(
     centre: &'a [i32; 6],
     coefficients: &'a [i32; 240],
     vectors: &'a [i32; 144],
-    radii: &'a [u32; 6],
+    radii: &'a [u64; 6],
     n: usize,
     h: usize,
     q: usize,
     limit: u64,
 ) -> bool
-    requires { ⌜ (n ≤ 6) × (h ≤ 40) × (q ≤ 24) ⌝ }
+    requires { ⌜ (n ≤ 6) × (h ≤ 40) × (q ≤ 24) × ((i : ℕ) → getD (now radii) i 0 ≤ mostRadius) ⌝ }
     ensures { λ r. ⌜ r ≡ some-below n (λ i. ltb limit
         (spanAt (now (centre .entry)) (now (coefficients .entry)) (now (vectors .entry)) (now (radii .entry)) h q i)) ⌝ }
 {
@@ -28,7 +28,7 @@ pub fn too_wide<'a>(
     for i in 0..n {
         let c = centre[i];
         let r = radii[i];
-        if limit < whole::size_i32(c) + terms[i] + generators[i] + whole::widen_u32(r) {
+        if limit < whole::size_i32(c) + terms[i] + generators[i] + r {
             return true;
         }
     }

@@ -1,18 +1,19 @@
 -- Laws of the body of a set: positions in it, and the record that is filled from it.
-use mathlib.Core.Path.{_≡_, refl, ap, _∙_}
+use mathlib.Core.Path.{_≡_, refl, sym, ap, _∙_}
 use mathlib.Core.List.{List, [], map}
 use mathlib.Core.Bool.{false}
 use Prim.Native.Nat.{ℕ, zero, suc, _+_, _*_, _/_, _%_, _≤_}
 use native.Mathlib.Nat.{mul-le-mul}
 use native.Mathlib.Omega.{arith}
-use lib.ListN.{length, getD}
+use lib.ListN.{length, getD, replicate}
 use lib.IntN.{ℤ, natAbs}
 use Rattle.whole.specs.Tab.{tab, length-tab, tab-cong}
-use Rattle.model.specs.Set.{Term, at}
+use Rattle.model.specs.Set.{Term, at, blank}
 use Rattle.model.specs.Valid.{badCounts}
 use Rattle.model.specs.Bytes.{byte, number, words}
+use Rattle.model.proofs.Radii.{blank-at}
 use Rattle.zonotope.specs.declared.PolyZonotope.{PolyZonotope}
-use Rattle.zonotope.specs.Record.{pack, noTerm}
+use Rattle.zonotope.specs.Record.{firsts, pack, noTerm}
 use Rattle.zonotope.specs.Counts.{countable}
 use Rattle.bodies.specs.declared.SetCounts.{SetCounts}
 use Rattle.bodies.specs.Rows.{Within, row-below}
@@ -57,6 +58,14 @@ part-of g zero f d i = refl
 part-of g (suc n) f d zero = refl
 part-of g (suc n) f d (suc i) = part-of g n (λ t. f (suc t)) d i
 
+-- a part of the radii that is 0 for each coordinate
+six-zeros : replicate {A = ℕ} 6 0 ≡ tab 6 (λ i. 0)
+unfolding tab
+six-zeros = refl
+
+no-part : (n : ℕ) → replicate {A = ℕ} 6 0 ≡ firsts 6 (blank n)
+no-part n = six-zeros ∙ tab-cong 6 _ _ (λ i l. sym (blank-at n i))
+
 module _ (b : List ℕ) (k : SetCounts) where
   -- the rows of the body, by their positions
   abbrev exponentRows : List (List ℕ)
@@ -92,7 +101,7 @@ module _ (b : List ℕ) (k : SetCounts) where
         exponents = e;
         coefficients = g;
         vectors = v;
-        radii = r;
+        radii = record { carried = replicate 6 0; rounded = replicate 6 0; folded = replicate 6 0; given = r };
       }) (pack (setOf b k))
   unfolding pack
   packed e₁ e₂ e₃ e₄ e₅ e₆ = rw (
@@ -105,6 +114,7 @@ module _ (b : List ℕ) (k : SetCounts) where
         ∙ part-of (λ t. t .coefficients) (k .terms) termOf noTerm (x / 6))),
     e₅,
     e₆,
+    no-part (k .dimension),
     length-tab (k .factors) (λ i. number 4 b (4 + 4 * i)),
     length-tab (k .terms) termOf,
     length-tab (k .generators) (λ g. words b (generatorsFrom k + g * (4 * k .dimension)) (k .dimension)),

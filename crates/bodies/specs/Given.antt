@@ -30,7 +30,7 @@ pack-sized m = record {
   exponents = length-tab 480 _;
   coefficients = length-tab 240 _;
   vectors = length-tab 144 _;
-  radii = length-tab 6 _;
+  radii = record { carried = length-tab 6 _; rounded = length-tab 6 _; folded = length-tab 6 _; given = length-tab 6 _ };
 }
 
 any-same : {A : Type 0} (p q : A → Bool) → ((a : A) → p a ≡ q a) → (l : List A) → any p l ≡ any q l

@@ -8,7 +8,7 @@ use lib.ListN.{length}
 use lib.IntN.{natAbs}
 use Rattle.whole.specs.Tab.{tab}
 use Rattle.model.specs.Limits.{maxFactors, maxTerms, maxGenerators}
-use Rattle.model.specs.Set.{Zonotope}
+use Rattle.model.specs.Set.{Zonotope, givenOnly}
 use Rattle.model.specs.Bytes.{byte, number, words}
 use Rattle.model.specs.Body.{dimension, factors, termCount, generatorCount, setLength, givenSet}
 use Rattle.model.specs.Field.{badDimension}
@@ -69,7 +69,7 @@ setOf b k = record {
     coefficients = words b (termsFrom k + t * termBytes k + k .factors) (k .dimension);
   });
   generators = tab (k .generators) (λ g. words b (generatorsFrom k + g * (4 * k .dimension)) (k .dimension));
-  radii = map natAbs (words b (radiiFrom k) (k .dimension));
+  radii = givenOnly (k .dimension) (map natAbs (words b (radiiFrom k) (k .dimension)));
 }
 
 pub given-set : (b : List ℕ) → setOf b (countsOf b) ≡ givenSet b

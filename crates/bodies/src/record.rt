@@ -12,6 +12,7 @@ ghost use Rattle.bodies.specs.Rows.{Within};
 ghost use Rattle.bodies.specs.Set.{SetLaid, setOf};
 use crate::tables;
 use zonotope::PolyZonotope;
+use zonotope::Radii;
 
 // The record of the set of a body with counts k.
 pub fn filled(b: &[u8], k: super::SetCounts) -> PolyZonotope
@@ -30,7 +31,14 @@ pub fn filled(b: &[u8], k: super::SetCounts) -> PolyZonotope
     let exponents = exponents(b, terms_from, term, p, h);
     let coefficients = coefficients(b, terms_from + p, term, n, h);
     let vectors = vectors(b, generators_from, n, q);
-    let radii = radii(b, generators_from + q * (4 * n), n);
+    let given = given(b, generators_from + q * (4 * n), n);
+    let none = [0u32; 6];
+    let radii = Radii {
+        carried: none,
+        rounded: none,
+        folded: none,
+        given,
+    };
     PolyZonotope {
         dimension: n,
         factors: p,
@@ -64,7 +72,8 @@ fn centre(b: &[u8], i: usize, n: usize) -> [i32; 6]
     out
 }
 
-fn radii(b: &[u8], i: usize, n: usize) -> [u32; 6]
+// The radii that the set gives.
+fn given(b: &[u8], i: usize, n: usize) -> [u32; 6]
     requires { ⌜ (n ≤ 6) × (i + 4 * n ≤ length (now b)) ⌝ }
     ensures { λ r. ⌜ r ≡ tab 6 (λ j. getD (map natAbs (words (now (b .entry)) i n)) j 0) ⌝ }
 {

@@ -1,10 +1,10 @@
--- The linear function a·x of a set's points, by the places of the record's arrays. An entry of a times a 32-bit number is at most 2^46 in
--- size, so that all sums fit 64 bits whatever the record holds.
+-- The linear function a·x of a set's points, by the places of the record's arrays and its radii. An entry of a times a 32-bit number is at
+-- most 2^46 in size, and times a radius less than 2^49, so that all sums fit 64 bits whatever the record holds.
 use mathlib.Core.Path.{_≡_, refl, sym, _∙_, ap, ap₂}
 use mathlib.Core.List.{List}
 use mathlib.Core.Bool.{Bool, true, false}
-use Prim.Native.Nat.{ℕ, _+_, _*_, _<_, _≤_}
-use native.Mathlib.Nat.{mul-le-mul, le-trans, add-le-add, le-of-eq, le-of-lt, add-mul, one-mul}
+use Prim.Native.Nat.{ℕ, _+_, _*_, _≤_}
+use native.Mathlib.Nat.{mul-le-mul, le-trans, add-le-add, le-of-eq, add-mul, one-mul}
 use native.Mathlib.Omega.{arith}
 use lib.ListN.{getD}
 use lib.IntN.{ℤ, pos, negsuc, negℤ, natAbs, _+ℤ_, _-ℤ_, _*ℤ_}
@@ -20,9 +20,9 @@ use Rattle.model.specs.Finish.{allEven}
 use Rattle.model.specs.Step.{dot}
 use Rattle.model.specs.Operations.{least, lowEnd, lowAlong}
 use Rattle.zonotope.specs.declared.PolyZonotope.{PolyZonotope}
-use Rattle.arrays.specs.Rows.{row, sum-tab}
-use Rattle.zonotope.specs.Record.{view}
-use Rattle.zonotope.specs.View.{row-at}
+use Rattle.arrays.specs.Rows.{row, mostRadius, sum-tab}
+use Rattle.zonotope.specs.Record.{view, totalsOf}
+use Rattle.zonotope.specs.View.{row-at, view-radius}
 
 -- every entry of a normal is within document 01's limit
 pub record Entries (a : List ℤ) : Type 0 where
@@ -45,6 +45,10 @@ sizeSum a xs n q = uptoℕ (λ g. natAbs (rowDot a xs g n)) q
 abbrev pub radiusSum : List ℤ → List ℕ → ℕ → ℕ
 radiusSum a radii n = uptoℕ (λ j. natAbs (at a j) * getD radii j 0) n
 
+-- the most that the radii can reach: 6 · 32,768 · mostRadius
+abbrev pub reachBound : ℕ
+reachBound = 3377699719741440
+
 -- the lower end, by place: n coordinates, p factors, h terms, q generators
 abbrev pub lowBy : List ℤ → List ℤ → List ℕ → List ℤ → List ℤ → List ℕ → ℕ → ℕ → ℕ → ℕ → ℤ
 lowBy a centre exponents coefficients vectors radii n p h q =
@@ -65,8 +69,8 @@ pub product-size : (x y : ℤ) → natAbs x ≤ 32768 → natAbs y ≤ 214748364
 product-size x y h k = mul-le-mul h k
 
 -- its size times a radius
-pub reach-size : (m r : ℕ) → m ≤ 32768 → r < 4294967296 → m * r ≤ 140737488355328
-reach-size m r h k = mul-le-mul h (le-of-lt k)
+pub reach-size : (m r : ℕ) → m ≤ 32768 → r ≤ mostRadius → m * r ≤ 562949953290240
+reach-size m r h k = mul-le-mul h k
 
 -- a sum that gains a number of size at most B
 pub grown : (f : ℕ → ℤ) (n B : ℕ) → natAbs (uptoℤ f n) ≤ n * B → natAbs (f n) ≤ B → natAbs (uptoℤ f (n + 1)) ≤ (n + 1) * B
@@ -107,13 +111,14 @@ module _ (s : PolyZonotope) (a : List ℤ) where
       first : (j : ℕ) → j ≡ 0 * 6 + j
       first j = omega arith
 
-  pub view-low : lowAlong a (view s) ≡ lowBy a (s .centre) (s .exponents) (s .coefficients) (s .vectors) (s .radii) (s .dimension)
-      (s .factors) (s .terms) (s .generators)
+  pub view-low : {radii : List ℕ} → s .dimension ≤ 6 → radii ≡ totalsOf (s .radii) → lowAlong a (view s) ≡
+      lowBy a (s .centre) (s .exponents) (s .coefficients) (s .vectors) radii (s .dimension) (s .factors) (s .terms) (s .generators)
   unfolding lowAlong lowEnd view
-  view-low =
+  view-low few e =
       ap₂ _-ℤ_
       (ap₂ _+ℤ_ dot-centre (sum-tab monoidℤ _ (s .terms) _ ∙ upto-cong (pos 0) _+ℤ_ _ _ (s .terms)
       (λ t h. ap (least _) (dot-row (s .coefficients) t))))
       (ap pos (ap₂ _+_ (sum-tab monoidℕ _ (s .generators) _ ∙ upto-cong 0 _+_ _ _ (s .generators)
       (λ g h. ap natAbs (dot-row (s .vectors) g)))
-      (upto-cong 0 _+_ _ _ (s .dimension) (λ j h. ap (natAbs (at a j) *_) (getD-tab (s .dimension) (λ i. getD (s .radii) i 0) 0 j h)))))
+      (upto-cong 0 _+_ _ _ (s .dimension) (λ j h. ap (natAbs (at a j) *_) (view-radius s few j h
+      ∙ sym (ap (λ (r : List ℕ). getD r j 0) e))))))

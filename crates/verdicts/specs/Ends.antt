@@ -18,8 +18,8 @@ use Rattle.model.specs.Operations.{least, greatest, lowEnd, highEnd, low, high}
 use Rattle.arrays.specs.Rows.{row, columnSizes, sum-tab}
 use Rattle.arrays.specs.Columns.{columns, columns-again}
 use Rattle.zonotope.specs.declared.PolyZonotope.{PolyZonotope}
-use Rattle.zonotope.specs.Record.{view}
-use Rattle.zonotope.specs.View.{row-at}
+use Rattle.zonotope.specs.Record.{view, totalsOf}
+use Rattle.zonotope.specs.View.{row-at, view-radius}
 use Rattle.verdicts.specs.Six.{six, six-cong}
 use Rattle.verdicts.specs.Along.{least-size}
 
@@ -96,7 +96,7 @@ module _ (up : Bool) (exponents : List ℕ) (coefficients : List ℤ) (p : ℕ) 
   }
 
 -- ---- the end of a coordinate, by place
-module _ (s : PolyZonotope) (i : ℕ) (h : i < s .dimension) where
+module _ (s : PolyZonotope) (few : s .dimension ≤ 6) (i : ℕ) (h : i < s .dimension) where
   terms-place : (f : Bool → ℤ → ℤ) → sumℤ (λ t. f (allEven (t .exponents)) (at (t .coefficients) i)) (view s .terms)
       ≡ uptoℤ (λ t. f (allEven (row 12 0 (s .exponents) t (s .factors))) (at (s .coefficients) (t * 6 + i))) (s .terms)
   unfolding view
@@ -105,12 +105,12 @@ module _ (s : PolyZonotope) (i : ℕ) (h : i < s .dimension) where
       ∙ upto-cong (pos 0) _+ℤ_ _ _ (s .terms) (λ t l. ap (f _) (row-at (s .coefficients) t (s .dimension) i h))
 
   width-place : sumℕ (λ g. natAbs (at g i)) (view s .generators) + radius (view s) i
-      ≡ columnSizes (s .vectors) i (s .generators) + getD (s .radii) i 0
+      ≡ columnSizes (s .vectors) i (s .generators) + getD (totalsOf (s .radii)) i 0
   unfolding view
   width-place =
       ap₂ _+_ (sum-tab monoidℕ _ (s .generators) _
       ∙ upto-cong 0 _+_ _ _ (s .generators) (λ g l. ap natAbs (row-at (s .vectors) g (s .dimension) i h)))
-      (getD-tab (s .dimension) (λ i. getD (s .radii) i 0) 0 i h)
+      (view-radius s few i h)
 
   centre-place : at (view s .centre) i ≡ at (s .centre) i
   unfolding view
@@ -118,20 +118,20 @@ module _ (s : PolyZonotope) (i : ℕ) (h : i < s .dimension) where
 
   pub view-end : (up : Bool) → endOf up (view s) i ≡
       reached up (at (s .centre) i +ℤ uptoℤ (λ t. rowExtreme up (s .exponents) (s .coefficients) (s .factors) t i) (s .terms))
-      (columnSizes (s .vectors) i (s .generators) + getD (s .radii) i 0)
+      (columnSizes (s .vectors) i (s .generators) + getD (totalsOf (s .radii)) i 0)
   unfolding lowEnd highEnd
   view-end false = ap₂ (reached false) (ap₂ _+ℤ_ centre-place (terms-place least)) width-place
   view-end true = ap₂ (reached true) (ap₂ _+ℤ_ centre-place (terms-place greatest)) width-place
 
--- all ends, from the sums of the terms and of the generators' sizes
-pub view-ends : (s : PolyZonotope) (up : Bool) {sums : List ℤ} {sizes : List ℕ}
+-- all ends, from the sums of the terms and of the generators' sizes, and the radii
+pub view-ends : (s : PolyZonotope) (up : Bool) {sums : List ℤ} {sizes radii : List ℕ} → s .dimension ≤ 6
     → Extremes up (s .exponents) (s .coefficients) (s .factors) (s .terms) sums
-    → sizes ≡ tab 6 (λ i. columnSizes (s .vectors) i (s .generators))
-    → six (s .dimension) (λ i. reached up (at (s .centre) i +ℤ at sums i) (getD sizes i 0 + getD (s .radii) i 0))
+    → sizes ≡ tab 6 (λ i. columnSizes (s .vectors) i (s .generators)) → radii ≡ totalsOf (s .radii)
+    → six (s .dimension) (λ i. reached up (at (s .centre) i +ℤ at sums i) (getD sizes i 0 + getD radii i 0))
     ≡ six (s .dimension) (endOf up (view s))
-view-ends s up x e =
+view-ends s up few x e r =
     six-cong (s .dimension) _ _ (λ i l h.
-    ap₂ (λ t g. reached up (at (s .centre) i +ℤ t) (g + getD (s .radii) i 0))
+    ap₂ (λ t w. reached up (at (s .centre) i +ℤ t) w)
     (ap (λ (v : List ℤ). at v i) (x .are) ∙ getD-tab 6 _ (pos 0) i l)
-    (ap (λ (v : List ℕ). getD v i 0) e ∙ getD-tab 6 _ 0 i l)
-    ∙ sym (view-end s i h up))
+    (ap₂ _+_ (ap (λ (v : List ℕ). getD v i 0) e ∙ getD-tab 6 _ 0 i l) (ap (λ (v : List ℕ). getD v i 0) r))
+    ∙ sym (view-end s few i h up))

@@ -1,13 +1,13 @@
 // The lower end of a·x over a set, part by part: the centre, the terms, the generators, the radii. No entry of a exceeds 32,768, so the
 // sums fit 64 bits whatever the record holds.
 ghost use mathlib.Core.Path.{_≡_};
-ghost use Prim.Native.Nat.{_+_, _*_, _^_, _≤_, _<_};
+ghost use Prim.Native.Nat.{ℕ, _+_, _*_, _^_, _≤_, _<_};
 ghost use lib.IntN.{natAbs};
-ghost use lib.ListN.{length};
+ghost use lib.ListN.{length, getD};
 ghost use Rattle.model.specs.Finish.{allEven};
 ghost use Rattle.model.specs.Operations.{least};
-ghost use Rattle.arrays.specs.Rows.{row};
-ghost use Rattle.verdicts.specs.Along.{Entries, rowDot, rowBound, leastSum, sizeSum, radiusSum, lowBy};
+ghost use Rattle.arrays.specs.Rows.{row, mostRadius};
+ghost use Rattle.verdicts.specs.Along.{Entries, rowDot, rowBound, leastSum, sizeSum, radiusSum, reachBound, lowBy};
 
 // Whether the first p exponents of row t are all even.
 pub fn even_row(e: &[u8; 480], t: usize, p: usize) -> bool
@@ -80,13 +80,13 @@ pub fn generators_reach(a: &[i32], xs: &[i32], q: usize, n: usize) -> u64
 }
 
 // How far the radii reach together.
-pub fn radii_reach(a: &[i32], radii: &[u32; 6], n: usize) -> u64
-    requires { ⌜ Entries (now a) × (n ≤ length (now a)) × (n ≤ 6) ⌝ }
-    ensures { λ r. ⌜ (r ≡ radiusSum (now (a .entry)) (now (radii .entry)) n) × (r ≤ 2 * rowBound) ⌝ }
+pub fn radii_reach(a: &[i32], radii: &[u64; 6], n: usize) -> u64
+    requires { ⌜ Entries (now a) × (n ≤ length (now a)) × (n ≤ 6) × ((i : ℕ) → getD (now radii) i 0 ≤ mostRadius) ⌝ }
+    ensures { λ r. ⌜ (r ≡ radiusSum (now (a .entry)) (now (radii .entry)) n) × (r ≤ reachBound) ⌝ }
 {
     let mut sum: u64 = 0;
     for j in 0..n {
-        sum += whole::size_i32(a[j]) * whole::widen_u32(radii[j]);
+        sum += whole::size_i32(a[j]) * radii[j];
     }
     sum
 }
@@ -98,13 +98,14 @@ pub fn lower_end<'a, 'b>(
     exponents: &'b [u8; 480],
     coefficients: &'b [i32; 240],
     vectors: &'b [i32; 144],
-    radii: &'b [u32; 6],
+    radii: &'b [u64; 6],
     n: usize,
     p: usize,
     h: usize,
     q: usize,
 ) -> i64
-    requires { ⌜ Entries (now a) × (n ≤ length (now a)) × (n ≤ 6) × (p ≤ 12) × (h ≤ 40) × (q ≤ 24) ⌝ }
+    requires { ⌜ Entries (now a) × (n ≤ length (now a)) × (n ≤ 6) × (p ≤ 12) × (h ≤ 40) × (q ≤ 24)
+        × ((i : ℕ) → getD (now radii) i 0 ≤ mostRadius) ⌝ }
     ensures { λ r. ⌜ (r ≡ lowBy (now (a .entry)) (now (centre .entry)) (now (exponents .entry)) (now (coefficients .entry))
         (now (vectors .entry)) (now (radii .entry)) n p h q) × (natAbs r < 2 ^ 63) ⌝ }
 {

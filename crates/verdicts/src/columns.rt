@@ -7,6 +7,7 @@ ghost use lib.IntN.{natAbs, _+ℤ_};
 ghost use Rattle.whole.specs.Tab.{tab};
 ghost use Rattle.model.specs.Set.{at};
 ghost use Rattle.model.specs.Operations.{greatest};
+ghost use Rattle.arrays.specs.Rows.{mostRadius};
 ghost use Rattle.verdicts.specs.Six.{six};
 ghost use Rattle.verdicts.specs.Ends.{extreme, reached, Extremes};
 use crate::Ends;
@@ -51,17 +52,18 @@ pub fn reach<'a, 'b>(
     centre: &'a [i32; 6],
     terms: &'b [i64; 6],
     sizes: &'b [u64; 6],
-    radii: &'a [u32; 6],
+    radii: &'b [u64; 6],
     n: usize,
 ) -> [i64; 6]
-    requires { ⌜ (n ≤ 6) × ((i : ℕ) → natAbs (at (now terms) i) ≤ 40 * 2147483648) × ((i : ℕ) → getD (now sizes) i 0 ≤ 40 * 2147483648) ⌝ }
+    requires { ⌜ (n ≤ 6) × ((i : ℕ) → natAbs (at (now terms) i) ≤ 40 * 2147483648) × ((i : ℕ) → getD (now sizes) i 0 ≤ 40 * 2147483648)
+        × ((i : ℕ) → getD (now radii) i 0 ≤ mostRadius) ⌝ }
     ensures { λ r. ⌜ r ≡ six n (λ i. reached up (at (now (centre .entry)) i +ℤ at (now (terms .entry)) i)
         (getD (now (sizes .entry)) i 0 + getD (now (radii .entry)) i 0)) ⌝ }
 {
     let mut out = [0i64; 6];
     for i in 0..n {
         let middle = whole::add(whole::widen(centre[i]), terms[i]);
-        let width = sizes[i] + whole::widen_u32(radii[i]);
+        let width = sizes[i] + radii[i];
         out[i] = reach_from(up, middle, width);
     }
     out

@@ -15,6 +15,7 @@ mod region;
 
 use zonotope::MAX_DIMENSION;
 use zonotope::PolyZonotope;
+use zonotope::parts;
 
 // Document 01's limits: of a region's halfspaces, of the size of a normal's entry and of a bound.
 const MAX_HALFSPACES: usize = 8;
@@ -47,10 +48,11 @@ pub fn ends_of(s: PolyZonotope) -> Ends
     let q = s.generators;
     let terms = columns::extremes(&s.exponents, &s.coefficients, h, p);
     let sizes = arrays::span::column_sizes(&s.vectors, q);
+    let radii = parts::totals(s.radii);
     let least = terms.low;
     let greatest = terms.high;
-    let low = columns::reach(false, &s.centre, &least, &sizes, &s.radii, n);
-    let high = columns::reach(true, &s.centre, &greatest, &sizes, &s.radii, n);
+    let low = columns::reach(false, &s.centre, &least, &sizes, &radii, n);
+    let high = columns::reach(true, &s.centre, &greatest, &sizes, &radii, n);
     Ends { low, high }
 }
 

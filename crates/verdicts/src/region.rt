@@ -1,17 +1,19 @@
 // An unsafe region: halfspaces given by the slices of their normals and their bounds.
 ghost use mathlib.Core.Path.{_≡_};
-ghost use Prim.Native.Nat.{_*_, _≤_};
-ghost use lib.ListN.{length};
+ghost use Prim.Native.Nat.{ℕ, _*_, _≤_};
+ghost use lib.ListN.{length, getD};
 ghost use lib.Signed.{ltZ};
 ghost use Rattle.whole.specs.Tab.{any};
 ghost use Rattle.model.specs.Field.{beyond};
 ghost use Rattle.model.specs.Operations.{safe};
+ghost use Rattle.arrays.specs.Rows.{mostRadius};
 ghost use Rattle.zonotope.specs.Record.{view};
 ghost use Rattle.zonotope.specs.Counts.{InLimits};
 ghost use Rattle.verdicts.specs.Along.{Entries, lowBy};
 ghost use Rattle.verdicts.specs.Region.{halfspaces};
 use crate::along;
 use zonotope::PolyZonotope;
+use zonotope::parts;
 
 // Whether the size of some bound exceeds the limit.
 pub fn bounds_beyond(xs: &[i64], limit: u64) -> bool
@@ -33,13 +35,14 @@ pub fn is_apart<'a, 'b>(
     exponents: &'b [u8; 480],
     coefficients: &'b [i32; 240],
     vectors: &'b [i32; 144],
-    radii: &'b [u32; 6],
+    radii: &'b [u64; 6],
     n: usize,
     p: usize,
     h: usize,
     q: usize,
 ) -> bool
-    requires { ⌜ Entries (now a) × (n ≤ length (now a)) × (n ≤ 6) × (p ≤ 12) × (h ≤ 40) × (q ≤ 24) ⌝ }
+    requires { ⌜ Entries (now a) × (n ≤ length (now a)) × (n ≤ 6) × (p ≤ 12) × (h ≤ 40) × (q ≤ 24)
+        × ((i : ℕ) → getD (now radii) i 0 ≤ mostRadius) ⌝ }
     ensures { λ r. ⌜ r ≡ ltZ b (lowBy (now (a .entry)) (now (centre .entry)) (now (exponents .entry)) (now (coefficients .entry))
         (now (vectors .entry)) (now (radii .entry)) n p h q) ⌝ }
 {
@@ -66,6 +69,7 @@ pub fn any_apart(s: PolyZonotope, n: usize, normals: &[i32], bounds: &[i64]) -> 
     let p = s.factors;
     let h = s.terms;
     let q = s.generators;
+    let radii = parts::totals(s.radii);
     for k in 0..bounds.len() {
         if is_apart(
             &normals[k * n..k * n + n],
@@ -74,7 +78,7 @@ pub fn any_apart(s: PolyZonotope, n: usize, normals: &[i32], bounds: &[i64]) -> 
             &s.exponents,
             &s.coefficients,
             &s.vectors,
-            &s.radii,
+            &radii,
             n,
             p,
             h,

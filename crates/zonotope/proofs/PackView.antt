@@ -14,12 +14,13 @@ use Rattle.whole.specs.Size.{abs-zero}
 use Rattle.whole.specs.Tab.{tab, any, length-tab, getD-tab, getD-tab-past, tab-cong, tab-getD}
 use Rattle.model.specs.Set.{Term}
 use Rattle.model.specs.Valid.{isZero}
+use Rattle.zonotope.specs.declared.Radii.{Radii}
 use Rattle.zonotope.specs.declared.PolyZonotope.{PolyZonotope}
 use Rattle.arrays.specs.Rows.{row}
 use Rattle.arrays.specs.Spare.{inRows, spareℕ, spareℤ}
-use Rattle.zonotope.specs.Record.{view, pack, noTerm, spare}
+use Rattle.zonotope.specs.Record.{firsts, firstParts, partsOf, packedRadii, spareParts, view, pack, noTerm, spare}
 use Rattle.whole.specs.Tests.{or-left, or-right, none-at}
-use Rattle.zonotope.specs.Shape.{Sized}
+use Rattle.zonotope.specs.Shape.{PartLengths, Sized}
 
 -- ---- what no spare place says: an entry that isn't used is 0
 module _ {A : Type 0} (zeroA : A) (isNone : A → Bool) (is : (a : A) → isNone a ≡ true → a ≡ zeroA) where
@@ -67,7 +68,7 @@ module _ {A : Type 0} (d : A) where
               ∙ sym (z x h (ap₂ _&&_ (lt-ltb (x / w) t l) (le-ltb (x % w) k (omega arith))))
 
 -- ---- the record of what a record means
-same : (s : PolyZonotope) (n p h q : ℕ) (ids : List ℕ) (c : List ℤ) (e : List ℕ) (g v : List ℤ) (r : List ℕ)
+same : (s : PolyZonotope) (n p h q : ℕ) (ids : List ℕ) (c : List ℤ) (e : List ℕ) (g v : List ℤ) (r : Radii)
     → n ≡ s .dimension → p ≡ s .factors → h ≡ s .terms → q ≡ s .generators → ids ≡ s .identifiers → c ≡ s .centre
     → e ≡ s .exponents → g ≡ s .coefficients → v ≡ s .vectors → r ≡ s .radii
     → _≡_ {A = PolyZonotope} (record {
@@ -84,6 +85,24 @@ same : (s : PolyZonotope) (n p h q : ℕ) (ids : List ℕ) (c : List ℤ) (e : L
     }) s
 same s n p h q ids c e g v r e₁ e₂ e₃ e₄ e₅ e₆ e₇ e₈ e₉ e₁₀ = rw (e₁, e₂, e₃, e₄, e₅, e₆, e₇, e₈, e₉, e₁₀)
 
+pack-parts : (r : Radii) (n : ℕ) → PartLengths r → spareParts r n ≡ false → packedRadii (firstParts n (partsOf r)) ≡ r
+pack-parts r n z e =
+    let part : List ℕ → Bool = λ l. spareℕ l 6 (λ i. ltb i n) in
+    let a = part (r .carried) in
+    let b = part (r .rounded) in
+    let c = part (r .folded) in
+    let d = part (r .given) in
+    let abc = or-left (a || b || c) d e in
+    let ab = or-left (a || b) c abc in
+    let whole : (l : List ℕ) → length l ≡ 6 → part l ≡ false → firsts 6 (firsts n l) ≡ l =
+    λ l long none. padded 0 6 n l long (unusedℕ l 6 _ none) in
+    λ i. record {
+      carried = whole (r .carried) (z .carried) (or-left a b ab) i;
+      rounded = whole (r .rounded) (z .rounded) (or-right a b ab) i;
+      folded = whole (r .folded) (z .folded) (or-right (a || b) c abc) i;
+      given = whole (r .given) (z .given) (or-right (a || b || c) d e) i;
+    }
+
 pub pack-view : (s : PolyZonotope) → Sized s → spare s ≡ false → pack (view s) ≡ s
 unfolding pack view spare
 pack-view s z e =
@@ -92,7 +111,7 @@ pack-view s z e =
     let a₃ = spareℕ (s .exponents) 480 (inRows 12 (s .terms) (s .factors)) in
     let a₄ = spareℤ (s .coefficients) 240 (inRows 6 (s .terms) (s .dimension)) in
     let a₅ = spareℤ (s .vectors) 144 (inRows 6 (s .generators) (s .dimension)) in
-    let a₆ = spareℕ (s .radii) 6 (λ i. ltb i (s .dimension)) in
+    let a₆ = spareParts (s .radii) (s .dimension) in
     let e₅ = or-left (a₁ || a₂ || a₃ || a₄ || a₅) a₆ e in
     let e₄ = or-left (a₁ || a₂ || a₃ || a₄) a₅ e₅ in
     let e₃ = or-left (a₁ || a₂ || a₃) a₄ e₄ in
@@ -123,4 +142,4 @@ pack-view s z e =
     (z .vectors)
     (λ q h. getD-tab (s .generators) G [] q h) (λ q h. getD-tab-past (s .generators) G [] q h)
     (unusedℤ (s .vectors) 144 _ (or-right (a₁ || a₂ || a₃ || a₄) a₅ e₅)))
-    (padded 0 6 (s .dimension) (s .radii) (z .radii) (unusedℕ (s .radii) 6 _ (or-right (a₁ || a₂ || a₃ || a₄ || a₅) a₆ e)))
+    (pack-parts (s .radii) (s .dimension) (z .radii) (or-right (a₁ || a₂ || a₃ || a₄ || a₅) a₆ e))

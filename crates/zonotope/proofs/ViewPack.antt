@@ -12,15 +12,16 @@ use lib.ListN.{length, getD, List·getD-eq-default}
 use lib.IntN.{ℤ, pos}
 use Rattle.whole.specs.Tab.{tab, any, length-tab, getD-tab, tab-cong, tab-getD}
 use Rattle.rational.specs.Sum.{All, none, more}
-use Rattle.model.specs.Set.{Term, Zonotope, at}
+use Rattle.model.specs.Set.{Term, Radii, Zonotope, at}
 use Rattle.model.specs.Valid.{badCounts, isZero}
 use Rattle.zonotope.specs.declared.PolyZonotope.{PolyZonotope}
 use Rattle.arrays.specs.Rows.{row}
 use Rattle.arrays.specs.Spare.{inRows}
-use Rattle.zonotope.specs.Record.{view, pack, noTerm, spare}
+use Rattle.zonotope.specs.Record.{firsts, firstParts, partsOf, packedRadii, view, pack, noTerm, spare}
 use Rattle.whole.specs.Tests.{any-none}
 use Rattle.zonotope.specs.Counts.{countable}
 use Rattle.model.proofs.Tests.{all-tab}
+use Rattle.model.proofs.Radii.{PartsLong}
 use Rattle.model.proofs.Shape.{Shaped}
 
 -- ---- what the record of a set means
@@ -41,6 +42,17 @@ module _ {A : Type 0} (d : A) where
       ∙ ap₂ F (mul-add-div-right {m = w} (omega arith) t i ∙ ap (t +_) (div-eq-of-lt (omega arith)) ∙ omega arith)
       (mul-add-mod-self-right t w i ∙ mod-eq-of-lt (omega arith)))
 
+view-parts : (r : Radii) (n : ℕ) → PartsLong n r → n ≤ 6 → firstParts n (partsOf (packedRadii r)) ≡ r
+view-parts r n z few =
+    let part : (l : List ℕ) → length l ≡ n → firsts n (firsts 6 l) ≡ l = λ l long. front 0 6 n (λ i. getD l i 0) few ∙ tab-getD n l 0
+    long in
+    λ i. record {
+      carried = part (r .carried) (z .carried-long) i;
+      rounded = part (r .rounded) (z .rounded-long) i;
+      folded = part (r .folded) (z .folded-long) i;
+      given = part (r .given) (z .given-long) i;
+    }
+
 pub view-pack : (m : Zonotope) → Shaped m → badCounts m ≡ false → view (pack m) ≡ m
 unfolding pack view
 view-pack m z b =
@@ -52,7 +64,8 @@ view-pack m z b =
     (front 0 12 p (λ i. getD (m .identifiers) i 0) (l .factors) ∙ tab-getD p (m .identifiers) 0 refl)
     (front (pos 0) 6 n (at (m .centre)) (l .dimension) ∙ tab-getD n (m .centre) (pos 0) (z .centre-long))
     (tab-cong (length (m .terms)) _ _ (λ t h. let s = all-at noTerm (z .rows) t h in same-term (getD (m .terms) t noTerm) _ _
-    (row-of 0 12 480 t p (λ q i. getD (getD (m .terms) q noTerm .exponents) i 0) (l .factors) (omega arith) ∙ tab-getD p _ 0 (s .exponents-long))
+    (row-of 0 12 480 t p (λ q i. getD (getD (m .terms) q noTerm .exponents) i 0) (l .factors) (omega arith) ∙ tab-getD p _ 0
+    (s .exponents-long))
     (row-of (pos 0) 6 240 t n (λ q i. at (getD (m .terms) q noTerm .coefficients) i) (l .dimension) (omega arith)
     ∙ tab-getD n _ (pos 0) (s .coefficients-long)))
     ∙ tab-getD (length (m .terms)) (m .terms) noTerm refl)
@@ -60,13 +73,13 @@ view-pack m z b =
     row-of (pos 0) 6 144 g n (λ q i. at (getD (m .generators) q []) i) (l .dimension) (omega arith)
     ∙ tab-getD n _ (pos 0) (all-at [] (z .generators-long) g h))
     ∙ tab-getD (length (m .generators)) (m .generators) [] refl)
-    (front 0 6 n (λ i. getD (m .radii) i 0) (l .dimension) ∙ tab-getD n (m .radii) 0 (z .radii-long))
+    (view-parts (m .radii) n (z .radii-long) (l .dimension))
   where
     same-term : (t : Term) (e : List ℕ) (c : List ℤ) → e ≡ t .exponents → c ≡ t .coefficients →
         _≡_ {A = Term} (record { exponents = e; coefficients = c }) t
     same-term t e c p q = rw (p, q)
 
-    same-set : (m : Zonotope) (n : ℕ) (k : List ℕ) (c : List ℤ) (t : List Term) (g : List (List ℤ)) (r : List ℕ)
+    same-set : (m : Zonotope) (n : ℕ) (k : List ℕ) (c : List ℤ) (t : List Term) (g : List (List ℤ)) (r : Radii)
         → n ≡ m .dimension → k ≡ m .identifiers → c ≡ m .centre → t ≡ m .terms → g ≡ m .generators → r ≡ m .radii
         → _≡_ {A = Zonotope} (record { dimension = n; identifiers = k; centre = c; terms = t; generators = g; radii = r }) m
     same-set m n k c t g r e₁ e₂ e₃ e₄ e₅ e₆ = rw (e₁, e₂, e₃, e₄, e₅, e₆)
@@ -117,7 +130,10 @@ spare-pack m z =
           (λ t l. ap (λ t. t .coefficients) (none-past t l)),
       full-rows (pos 0) isZero refl 6 144 q n (λ g. getD (m .generators) g []) (λ g l. all-at [] (z .generators-long) g l)
           (λ g l. List·getD-eq-default (m .generators) [] l),
-      full 0 (λ k. eqb k 0) refl 6 n (m .radii) (omega (arith, z .radii-long)),
+      full 0 (λ k. eqb k 0) refl 6 n (m .radii .carried) (omega (arith, z .radii-long .carried-long)),
+      full 0 (λ k. eqb k 0) refl 6 n (m .radii .rounded) (omega (arith, z .radii-long .rounded-long)),
+      full 0 (λ k. eqb k 0) refl 6 n (m .radii .folded) (omega (arith, z .radii-long .folded-long)),
+      full 0 (λ k. eqb k 0) refl 6 n (m .radii .given) (omega (arith, z .radii-long .given-long)),
     )
 
 -- ---- what a record means has the shape of a set
@@ -125,7 +141,12 @@ pub view-shaped : (s : PolyZonotope) → Shaped (view s)
 unfolding view
 view-shaped s = record {
   centre-long = length-tab (s .dimension) _;
-  radii-long = length-tab (s .dimension) _;
+  radii-long = record {
+    carried-long = length-tab (s .dimension) _;
+    rounded-long = length-tab (s .dimension) _;
+    folded-long = length-tab (s .dimension) _;
+    given-long = length-tab (s .dimension) _;
+  };
   rows = all-tab (s .terms) _ (λ t h. record {
     exponents-long = length-tab (s .factors) _ ∙ sym (length-tab (s .factors) _);
     coefficients-long = length-tab (s .dimension) _;

@@ -11,6 +11,8 @@ use Rattle.model.specs.Limits.{maxDimension, maxFactors, maxTerms, maxGenerator
 use Rattle.model.specs.Valid.{order, isLess, rises, zeros, factorless}
 use Rattle.arrays.specs.Rows.{row, identifierOut, exponentOut}
 use Rattle.arrays.specs.Spare.{inRows, spareℕ, spareℤ}
+use Rattle.zonotope.specs.declared.Radii.{Radii}
+use Rattle.zonotope.specs.Record.{spareParts}
 
 -- 4: a count is out of limits
 abbrev pub countsOut : ℕ → ℕ → ℕ → ℕ → Bool
@@ -22,14 +24,14 @@ rangeOut identifiers exponents p h =
     any identifierOut (tab p (λ i. getD identifiers i 0)) || some-below h (λ t. any exponentOut (row 12 0 exponents t p))
 
 -- 7, first: a place that the counts leave unused isn't 0
-abbrev pub spareIn : List ℕ → List ℤ → List ℕ → List ℤ → List ℤ → List ℕ → ℕ → ℕ → ℕ → ℕ → Bool
+abbrev pub spareIn : List ℕ → List ℤ → List ℕ → List ℤ → List ℤ → Radii → ℕ → ℕ → ℕ → ℕ → Bool
 spareIn identifiers centre exponents coefficients vectors radii n p h q =
     spareℕ identifiers 12 (λ i. ltb i p)
     || spareℤ centre 6 (λ i. ltb i n)
     || spareℕ exponents 480 (inRows 12 h p)
     || spareℤ coefficients 240 (inRows 6 h n)
     || spareℤ vectors 144 (inRows 6 q n)
-    || spareℕ radii 6 (λ i. ltb i n)
+    || spareParts radii n
 
 -- factor j occurs in one of h terms
 abbrev pub occursAt : List ℕ → ℕ → ℕ → Bool

@@ -2,21 +2,25 @@
 use mathlib.Core.Path.{_≡_, refl, sym, _∙_, ap, ap₂}
 use mathlib.Core.List.{List}
 use mathlib.Core.Bool.{not, _&&_, _||_, or-assoc}
-use Prim.Native.Nat.{ℕ, _+_, _*_, _<_}
+use Prim.Native.Nat.{ℕ, _+_, _*_, _<_, _≤_}
 use native.Mathlib.Nat.{div-eq-of-lt, mod-eq-of-lt}
+use native.Mathlib.Omega.{arith}
 use lib.Dec.{ltb}
 use lib.ListN.{length, getD}
 use lib.IntN.{ℤ, pos, natAbs}
 use Rattle.whole.specs.Sum.{monoidℕ, sumℕ, upto-cong}
-use Rattle.whole.specs.Tab.{tab, any, all, getD-tab, length-tab}
-use Rattle.model.specs.Set.{at, span, termSizes, generatorSizes}
+use Rattle.whole.specs.Tab.{tab, any, all, getD-tab, length-tab, tab-cong}
+use Rattle.model.specs.Set.{Zonotope, at, radius, radiusOf, span, termSizes, generatorSizes, blank}
+use Rattle.model.specs.Step.{rounded}
+use Rattle.model.proofs.Radii.{blank-at}
 use Rattle.model.specs.Valid.{order, isLess, rises, isZero, zeros, factorless, occurs, badRange, badOrder, tooWide}
 use Rattle.model.specs.Limits.{recordIdentifiers, maxSpan}
 use Rattle.zonotope.specs.declared.PolyZonotope.{PolyZonotope}
 use Rattle.arrays.specs.Rows.{row, columnSizes, spanAt, identifierOut, sum-tab}
 use Rattle.arrays.specs.Spare.{inRows, spareℕ, spareℤ}
-use Rattle.zonotope.specs.Record.{view}
-use Rattle.zonotope.specs.Shape.{Lengths}
+use Rattle.zonotope.specs.declared.Radii.{Radii}
+use Rattle.zonotope.specs.Record.{view, partsOf, widePartsOf, totalsOf, anew, firsts, firstParts, spareParts}
+use Rattle.zonotope.specs.Shape.{PartLengths, Lengths}
 use Rattle.zonotope.specs.Causes.{rangeOut, spareIn, orderOut}
 use Rattle.whole.specs.Tests.{some-below, any-places, any-cong, all-cong, any-or}
 use Rattle.arrays.specs.Ascent.{rises-of}
@@ -32,15 +36,31 @@ column v xs n i rows f h e =
     sum-tab monoidℕ (λ a. natAbs (at (v a) i)) rows f
     ∙ upto-cong 0 _+_ _ _ rows (λ t l. ap (λ r. natAbs (at r i)) (e t) ∙ ap natAbs (row-at xs t n i h))
 
+-- the radius of a coordinate
+pub view-radius : (s : PolyZonotope) → s .dimension ≤ 6 → (i : ℕ) → i < s .dimension → radius (view s) i ≡ getD (totalsOf (s .radii)) i 0
+unfolding view radiusOf
+view-radius s few i h =
+    let part : (l : List ℕ) → getD (firsts (s .dimension) l) i 0 ≡ getD l i 0 = λ l. getD-tab (s .dimension) (λ i. getD l i 0) 0 i h in
+    ap₂ _+_ (ap₂ _+_ (ap₂ _+_ (part (s .radii .carried)) (part (s .radii .rounded))) (part (s .radii .folded))) (part (s .radii .given))
+    ∙ sym (getD-tab 6 (radiusOf (partsOf (s .radii))) 0 i (omega arith))
+
 -- the span of a coordinate
-pub view-span : (s : PolyZonotope) (i : ℕ) → i < s .dimension
-    → span (view s) i ≡ spanAt (s .centre) (s .coefficients) (s .vectors) (s .radii) (s .terms) (s .generators) i
+pub view-span : (s : PolyZonotope) → s .dimension ≤ 6 → (i : ℕ) → i < s .dimension
+    → span (view s) i ≡ spanAt (s .centre) (s .coefficients) (s .vectors) (totalsOf (s .radii)) (s .terms) (s .generators) i
 unfolding span view termSizes generatorSizes
-view-span s i h =
+view-span s few i h =
     ap₂ _+_ (ap₂ _+_ (ap₂ _+_ (ap natAbs (getD-tab (s .dimension) (λ i. getD (s .centre) i (pos 0)) (pos 0) i h))
     (column (λ t. t .coefficients) (s .coefficients) (s .dimension) i (s .terms) _ h (λ t. refl)))
     (column (λ g. g) (s .vectors) (s .dimension) i (s .generators) _ h (λ t. refl)))
-    (getD-tab (s .dimension) (λ i. getD (s .radii) i 0) 0 i h)
+    (view-radius s few i h)
+
+-- radii made anew, from what is carried and what rounding adds, are those of a rounded set
+pub anew-rounded : (z : Zonotope) {c d : List ℕ} → c ≡ firsts 6 (rounded z .radii .carried) → d ≡ firsts 6 (rounded z .radii .rounded)
+    → widePartsOf (anew c d) ≡ firstParts 6 (rounded z .radii)
+unfolding rounded
+anew-rounded z p q =
+    let none : blank 6 ≡ firsts 6 (blank (z .dimension)) = tab-cong 6 _ _ (λ i h. sym (blank-at (z .dimension) i)) in
+    λ i. record { carried = p i; rounded = q i; folded = none i; given = none i }
 
 -- ---- the causes of a refusal
 -- 6, 7 and 8, as the tests by place decide them
@@ -66,23 +86,30 @@ view-order s =
     ∙ all-cong _ _ (s .factors) (λ j. j) (λ j l. any-places _ (s .terms) _
     ∙ any-cong _ _ (s .terms) (λ t. t) (λ t m. ap (ltb 0) (getD-tab (s .factors) (λ i. getD (s .exponents) (t * 12 + i) 0) 0 j l)))))
 
-pub view-wide : (s : PolyZonotope) → tooWide (view s) ≡ some-below (s .dimension)
-    (λ i. ltb maxSpan (spanAt (s .centre) (s .coefficients) (s .vectors) (s .radii) (s .terms) (s .generators) i))
+pub view-wide : (s : PolyZonotope) → s .dimension ≤ 6 → tooWide (view s) ≡ some-below (s .dimension)
+    (λ i. ltb maxSpan (spanAt (s .centre) (s .coefficients) (s .vectors) (totalsOf (s .radii)) (s .terms) (s .generators) i))
 unfolding tooWide view
-view-wide s = any-cong _ _ (s .dimension) (λ i. i) (λ i l. ap (ltb maxSpan) (view-span s i l))
+view-wide s few = any-cong _ _ (s .dimension) (λ i. i) (λ i l. ap (ltb maxSpan) (view-span s few i l))
 
 -- the centre is one row of 6
 centre-row : (xs : List ℤ) (k : ℕ) → spareℤ xs 6 (inRows 6 1 k) ≡ spareℤ xs 6 (λ i. ltb i k)
 centre-row xs k =
     any-cong _ _ 6 (λ x. x) (λ x h. ap₂ (λ q r. not (ltb q 1 && ltb r k || isZero (getD xs x (pos 0)))) (div-eq-of-lt h) (mod-eq-of-lt h))
 
--- the unused places of arrays that have their lengths
-module _ (identifiers : List ℕ) (centre : List ℤ) (exponents : List ℕ) (coefficients vectors : List ℤ) (radii : List ℕ) (n p h q : ℕ) where
+-- the unused places of arrays that have their lengths: of radii, and of a record
+pub spare-parts : (r : Radii) (n : ℕ) → PartLengths r →
+    spareℕ (r .carried) (length (r .carried)) (λ i. ltb i n)
+    || spareℕ (r .rounded) (length (r .rounded)) (λ i. ltb i n)
+    || spareℕ (r .folded) (length (r .folded)) (λ i. ltb i n)
+    || spareℕ (r .given) (length (r .given)) (λ i. ltb i n) ≡ spareParts r n
+spare-parts r n z = rw (z .carried, z .rounded, z .folded, z .given)
+
+module _ (identifiers : List ℕ) (centre : List ℤ) (exponents : List ℕ) (coefficients vectors : List ℤ) (radii : Radii) (n p h q : ℕ) where
   pub spare-places : Lengths identifiers centre exponents coefficients vectors radii →
       spareℕ identifiers (length identifiers) (λ i. ltb i p)
       || spareℤ centre (length centre) (inRows 6 1 n)
       || spareℕ exponents (length exponents) (inRows 12 h p)
       || spareℤ coefficients (length coefficients) (inRows 6 h n)
       || spareℤ vectors (length vectors) (inRows 6 q n)
-      || spareℕ radii (length radii) (λ i. ltb i n) ≡ spareIn identifiers centre exponents coefficients vectors radii n p h q
-  spare-places z = rw (z .identifiers, z .centre, z .exponents, z .coefficients, z .vectors, z .radii, centre-row centre n)
+      || spareParts radii n ≡ spareIn identifiers centre exponents coefficients vectors radii n p h q
+  spare-places z = rw (z .identifiers, z .centre, z .exponents, z .coefficients, z .vectors, centre-row centre n)

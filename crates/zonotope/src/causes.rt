@@ -3,6 +3,8 @@ ghost use mathlib.Core.Path.{_≡_};
 ghost use Prim.Native.Nat.{_≤_};
 ghost use Rattle.zonotope.specs.Shape.{Lengths};
 ghost use Rattle.zonotope.specs.Causes.{countsOut, rangeOut, spareIn, orderOut};
+use crate::Radii;
+use crate::parts;
 use arrays::spare;
 use arrays::used;
 
@@ -37,7 +39,7 @@ pub fn has_spare<'a>(
     exponents: &'a [u8; 480],
     coefficients: &'a [i32; 240],
     vectors: &'a [i32; 144],
-    radii: &'a [u32; 6],
+    radii: Radii,
     n: usize,
     p: usize,
     h: usize,
@@ -45,16 +47,16 @@ pub fn has_spare<'a>(
 ) -> bool
     requires { ⌜ (n ≤ 6) × (p ≤ 12) × (h ≤ 40) × (q ≤ 24) ⌝ }
     ensures { λ r. ⌜ r ≡ spareIn (now (identifiers .entry)) (now (centre .entry)) (now (exponents .entry)) (now (coefficients .entry))
-        (now (vectors .entry)) (now (radii .entry)) n p h q ⌝ }
+        (now (vectors .entry)) radii n p h q ⌝ }
     ensures lengths { λ _. ⌜ Lengths (now (identifiers .entry)) (now (centre .entry)) (now (exponents .entry))
-        (now (coefficients .entry)) (now (vectors .entry)) (now (radii .entry)) ⌝ }
+        (now (coefficients .entry)) (now (vectors .entry)) radii ⌝ }
 {
     spare::after_first(identifiers, p)
         | spare::outside_numbers(centre, 1, n)
         | spare::outside_exponents(exponents, h, p)
         | spare::outside_numbers(coefficients, h, n)
         | spare::outside_numbers(vectors, q, n)
-        | spare::after_first(radii, n)
+        | parts::has_spare(radii, n)
 }
 
 // 7, second: whether identifiers or terms don't rise, a term or a generator is zero, a term has no factor or a factor no term.

@@ -9,6 +9,7 @@ ghost use Rattle.zonotope.specs.Answer.{examined};
 
 pub mod arguments;
 mod causes;
+pub mod parts;
 
 use arrays::span;
 
@@ -23,6 +24,23 @@ pub const MAX_GENERATORS: usize = 24;
 
 pub const MAX_SPAN: u64 = 1048576;
 
+// The radius of each coordinate by where it came from: what a step or a hull carried on, what rounding and what folding added, and what a
+// set or a disturbance gave. No part can be negative; the radius is their sum.
+pub struct Radii {
+    pub carried: [u32; 6],
+    pub rounded: [u32; 6],
+    pub folded: [u32; 6],
+    pub given: [u32; 6],
+}
+
+// The same at 64 bits, for results that aren't finished.
+pub struct WideRadii {
+    pub carried: [u64; 6],
+    pub rounded: [u64; 6],
+    pub folded: [u64; 6],
+    pub given: [u64; 6],
+}
+
 // A sparse polynomial zonotope with generators and radii, in units of the last place (document 01: grains). A term's exponents stand in
 // a row of 12, its coefficients and a generator's numbers in a row of 6. Places that the counts leave unused hold 0.
 pub struct PolyZonotope {
@@ -35,7 +53,7 @@ pub struct PolyZonotope {
     pub exponents: [u8; 480],
     pub coefficients: [i32; 240],
     pub vectors: [i32; 144],
-    pub radii: [u32; 6],
+    pub radii: Radii,
 }
 
 // What examining a set says: it is valid, or it is refused with document 01's number.
@@ -53,7 +71,13 @@ pub fn empty() -> PolyZonotope
     let exponents = [0u8; 480];
     let coefficients = [0i32; 240];
     let vectors = [0i32; 144];
-    let radii = [0u32; 6];
+    let none = [0u32; 6];
+    let radii = Radii {
+        carried: none,
+        rounded: none,
+        folded: none,
+        given: none,
+    };
     PolyZonotope {
         dimension: 0,
         factors: 0,
@@ -77,6 +101,7 @@ pub fn examine(s: PolyZonotope) -> Examined
     let p = s.factors;
     let h = s.terms;
     let q = s.generators;
+    let radii = s.radii;
     if causes::counts_out(n, p, h, q) {
         return Examined::Refused(4);
     }
@@ -89,7 +114,7 @@ pub fn examine(s: PolyZonotope) -> Examined
         &s.exponents,
         &s.coefficients,
         &s.vectors,
-        &s.radii,
+        radii,
         n,
         p,
         h,
@@ -108,11 +133,12 @@ pub fn examine(s: PolyZonotope) -> Examined
     {
         return Examined::Refused(7);
     }
+    let totals = parts::totals(radii);
     if span::too_wide(
         &s.centre,
         &s.coefficients,
         &s.vectors,
-        &s.radii,
+        &totals,
         n,
         h,
         q,

@@ -25,9 +25,9 @@ abbrev μ-loop : tie.MeasureT-loop
 μ-loop centre coefficients vectors radii n h q limit terms generators i₀ i = n - i
 
 -- the span as it is added up
-module _ (s : tie.After-widen-u32 Inv-loop μ-loop) where
+module _ (s : tie.After-size-i32 Inv-loop μ-loop) where
   abbrev at : tie.At-loop Inv-loop μ-loop
-  at = s .before .before .before .before .before
+  at = s .before .before .before .before
 
   abbrev a : tie.Start Inv-loop μ-loop
   a = at .before .before .before .before .before
@@ -43,14 +43,13 @@ module _ (s : tie.After-widen-u32 Inv-loop μ-loop) where
   column : (xs : List ℤ) (rows : ℕ) {r : List ℕ} → r ≡ tab 6 (λ i. columnSizes xs i rows) → getD r i 0 ≡ columnSizes xs i rows
   column xs rows e = ap (λ (l : List ℕ). getD l i 0) e ∙ getD-tab 6 _ 0 i (omega arith)
 
-  span-is : s .before .size-i32 .result + getD (at .before .before .before .column-sizes .result) i 0
-      + getD (at .before .column-sizes2 .result) i 0 + s .widen-u32 .result ≡ span
+  span-is : s .size-i32 .result + getD (at .before .before .before .column-sizes .result) i 0
+      + getD (at .before .column-sizes2 .result) i 0 + getD (a .args .radii .now) i 0 ≡ span
   span-is =
-      ap₂ _+_ (ap₂ _+_ (ap₂ _+_ (s .before .size-i32 .ensures .0 ∙ ap natAbs
-      (read32 (getD (a .args .centre .now) i (pos 0)) (s .before .before .before .c .given)))
+      ap (_+ getD (a .args .radii .now) i 0) (ap₂ _+_ (ap₂ _+_ (s .size-i32 .ensures .0 ∙ ap natAbs
+      (read32 (getD (a .args .centre .now) i (pos 0)) (s .before .before .c .given)))
       (column (a .args .coefficients .now) (a .args .h) (at .before .before .before .column-sizes .ensures .0)))
       (column (a .args .vectors .now) (a .args .q) (at .before .column-sizes2 .ensures .0)))
-      (s .widen-u32 .ensures .0)
 
 column-sizes-requires : tie.Need-column-sizes-requires Inv-loop μ-loop
 column-sizes-requires c κs = search needs
@@ -98,13 +97,15 @@ mul-r c = search needs
 element-copy-out-r : tie.Need-element-copy-out-r Inv-loop μ-loop
 element-copy-out-r c = search needs
 
-widen-u32-requires : tie.Need-widen-u32-requires Inv-loop μ-loop
-widen-u32-requires c κs = search needs
-
 add-if1-3 : tie.Need-add-if1-3 Inv-loop μ-loop
 add-if1-3 c =
-    let at = c .before .before .before .before .before in
-    omega (arith, at .before .before .before .column-sizes .ensures .1 (at .loop .i), at .before .column-sizes2 .ensures .1 (at .loop .i))
+    let at = c .before .before .before .before in
+    omega (
+      arith,
+      at .before .before .before .column-sizes .ensures .1 (at .loop .i),
+      at .before .column-sizes2 .ensures .1 (at .loop .i),
+      at .before .before .before .before .before .pre .3 (at .loop .i),
+    )
 
 returns : tie.Need-returns Inv-loop μ-loop
 returns c = sym (any-found _ _ _ _ (omega arith) (ap (ltb _) (sym (span-is (c .before))) ∙ lt-ltb _ _ (c .if1 .taken)))
@@ -143,7 +144,6 @@ too-wide-spec =
     mul-if1-2
     array-read-if1-2
     add-if1-2
-    widen-u32-requires
     add-if1-3
     returns
     add-i

@@ -59,17 +59,17 @@ vectors-requires c κs =
     let s = c .before .before .before .before .before in
     (generators-within (s .args .k) (length (s .args .b .now)) (s .pre), s .pre .counts .dimension, s .pre .counts .generators)
 
-mul-radii : tie.Need-mul-radii
-mul-radii c = search needs
+mul-given : tie.Need-mul-given
+mul-given c = search needs
 
-mul-radii-2 : tie.Need-mul-radii-2
-mul-radii-2 c = search needs
+mul-given-2 : tie.Need-mul-given-2
+mul-given-2 c = search needs
 
-add-radii : tie.Need-add-radii
-add-radii c = search needs
+add-given : tie.Need-add-given
+add-given c = search needs
 
-radii-requires : tie.Need-radii-requires
-radii-requires c κs = search needs
+given-requires : tie.Need-given-requires
+given-requires c κs = search needs
 
 returns : tie.Need-returns
 returns c =
@@ -80,7 +80,7 @@ returns c =
     (c .before .before .before .exponents .ensures)
     (c .before .before .coefficients .ensures)
     (c .before .vectors .ensures)
-    (c .radii .ensures)
+    (c .given .ensures)
 
 pub filled-spec : {M : Type 1} → statement M
 filled-spec =
@@ -102,8 +102,8 @@ filled-spec =
     add-coefficients
     coefficients-requires
     vectors-requires
-    mul-radii
-    mul-radii-2
-    add-radii
-    radii-requires
+    mul-given
+    mul-given-2
+    add-given
+    given-requires
     returns)

@@ -1,8 +1,9 @@
--- `along::radii_reach` meets its contract: the sum so far is that of the products passed, each at most 2^47.
+-- `along::radii_reach` meets its contract: the sum so far is that of the products passed, each less than 2^49.
 use borrow.Author.Needs.{needs}
 use native.Mathlib.Omega.{arith}
 use mathlib.Core.Path.{_≡_, refl, sym, ap, ap₂, _∙_}
-use Prim.Native.Nat.{_+_, _-_, _*_, _≤_}
+use Prim.Native.Nat.{ℕ, _+_, _-_, _*_, _≤_}
+use lib.ListN.{getD}
 use lib.IntN.{ℤ, natAbs}
 use Rattle.whole.specs.Fits.{read32}
 use Rattle.whole.specs.Sum.{uptoBy, upto-suc}
@@ -12,23 +13,26 @@ use Rattle.verdicts.proofs.along.radii_reach.Statement.{statement}
 use Rattle.verdicts.proofs.along.radii_reach.Tie as tie
 
 abbrev Inv-loop : tie.InvT-loop
-Inv-loop a radii n sum₀ j₀ sum j = (j ≤ n) × (sum ≡ radiusSum a radii j) × (sum ≤ j * 140737488355328)
+Inv-loop a radii n sum₀ j₀ sum j = (j ≤ n) × (sum ≡ radiusSum a radii j) × (sum ≤ j * 562949953290240)
 
 abbrev μ-loop : tie.MeasureT-loop
 μ-loop a radii n sum₀ j₀ sum j = n - j
 
-module _ (s : tie.After-widen-u32 Inv-loop μ-loop) where
+module _ (s : tie.After-sum Inv-loop μ-loop) where
   abbrev top : tie.At-loop Inv-loop μ-loop
-  top = s .before .before .before .before .before
+  top = s .before .before .before .before
 
   abbrev x : ℤ
   x = at (top .before .args .a .now) (top .loop .j)
 
-  x-is : s .before .before .size-i32 .result ≡ natAbs x
-  x-is = s .before .before .size-i32 .ensures .0 ∙ ap natAbs (read32 x (s .before .before .before .size-i32-arg .given))
+  abbrev radius : ℕ
+  radius = getD (top .before .args .radii .now) (top .loop .j) 0
 
-  product : s .before .before .size-i32 .result * s .widen-u32 .result ≤ 140737488355328
-  product = reach-size _ _ (omega (arith, x-is, top .before .pre .0 .within (top .loop .j))) (s .widen-u32 .ensures .1)
+  x-is : s .before .size-i32 .result ≡ natAbs x
+  x-is = s .before .size-i32 .ensures .0 ∙ ap natAbs (read32 x (s .before .before .size-i32-arg .given))
+
+  product : s .before .size-i32 .result * radius ≤ 562949953290240
+  product = reach-size _ _ (omega (arith, x-is, top .before .pre .0 .within (top .loop .j))) (top .before .pre .3 (top .loop .j))
 
 loop-holds : tie.Need-loop-holds Inv-loop μ-loop
 unfolding uptoBy
@@ -43,17 +47,14 @@ shared-slice-copy-out-size-i32 c = search needs
 size-i32-requires : tie.Need-size-i32-requires Inv-loop μ-loop
 size-i32-requires c κs = search needs
 
-mul-widen-u32 : tie.Need-mul-widen-u32 Inv-loop μ-loop
-mul-widen-u32 c = search needs
-
-element-copy-out-widen-u32 : tie.Need-element-copy-out-widen-u32 Inv-loop μ-loop
-element-copy-out-widen-u32 c = search needs
-
-widen-u32-requires : tie.Need-widen-u32-requires Inv-loop μ-loop
-widen-u32-requires c κs = search needs
-
 mul-sum : tie.Need-mul-sum Inv-loop μ-loop
-mul-sum c = omega (arith, product c)
+mul-sum c = search needs
+
+element-copy-out-sum : tie.Need-element-copy-out-sum Inv-loop μ-loop
+element-copy-out-sum c = search needs
+
+mul-sum-2 : tie.Need-mul-sum-2 Inv-loop μ-loop
+mul-sum-2 c = omega (arith, product c)
 
 add-sum : tie.Need-add-sum Inv-loop μ-loop
 add-sum c = omega (arith, product c)
@@ -67,7 +68,7 @@ loop-less c = search needs
 loop-again : tie.Need-loop-again Inv-loop μ-loop
 loop-again c = (
   omega arith,
-  ap₂ _+_ (top c .loop .inv .1) (ap₂ _*_ (x-is c) (c .widen-u32 .ensures .0)) ∙ sym (upto-suc 0 _+_ _ _),
+  ap₂ _+_ (top c .loop .inv .1) (ap (_* radius c) (x-is c)) ∙ sym (upto-suc 0 _+_ _ _),
   omega (arith, product c),
 )
 
@@ -87,10 +88,9 @@ radii-reach-spec =
     mul-size-i32
     shared-slice-copy-out-size-i32
     size-i32-requires
-    mul-widen-u32
-    element-copy-out-widen-u32
-    widen-u32-requires
     mul-sum
+    element-copy-out-sum
+    mul-sum-2
     add-sum
     add-j
     loop-less

@@ -53,13 +53,12 @@ module _ (s : tie.After-add-arg Inv-loop μ-loop) where
       )
 
 -- their sum, and how far from it the end lies
-module _ (s : tie.After-widen-u32 Inv-loop μ-loop) where
+module _ (s : tie.After-width2 Inv-loop μ-loop) where
   abbrev parts : tie.After-add-arg Inv-loop μ-loop
-  parts = s .before .before .before .before
+  parts = s .before .before .before
 
-  middle-is : toZ w64 (ofZ w64 (s .before .before .before .add .result)) ≡ centre parts +ℤ terms parts
-  middle-is =
-      got64 (s .before .before .before .add .ensures ∙ ap₂ _+ℤ_ (centre-is parts) (terms-is parts)) (s .before .before .before .add .ok)
+  middle-is : toZ w64 (ofZ w64 (s .before .before .add .result)) ≡ centre parts +ℤ terms parts
+  middle-is = got64 (s .before .before .add .ensures ∙ ap₂ _+ℤ_ (centre-is parts) (terms-is parts)) (s .before .before .add .ok)
 
 loop-holds : tie.Need-loop-holds Inv-loop μ-loop
 loop-holds c = (omega arith, six-none _)
@@ -88,22 +87,23 @@ mul-width c = search needs
 element-copy-out-width : tie.Need-element-copy-out-width Inv-loop μ-loop
 element-copy-out-width c = search needs
 
-mul-widen-u32 : tie.Need-mul-widen-u32 Inv-loop μ-loop
-mul-widen-u32 c = search needs
+mul-width-2 : tie.Need-mul-width-2 Inv-loop μ-loop
+mul-width-2 c = search needs
 
-element-copy-out-widen-u32 : tie.Need-element-copy-out-widen-u32 Inv-loop μ-loop
-element-copy-out-widen-u32 c = search needs
-
-widen-u32-requires : tie.Need-widen-u32-requires Inv-loop μ-loop
-widen-u32-requires c κs = search needs
+element-copy-out-width-2 : tie.Need-element-copy-out-width-2 Inv-loop μ-loop
+element-copy-out-width-2 c = search needs
 
 add-width : tie.Need-add-width Inv-loop μ-loop
-add-width c = let a = start (parts c) in omega (arith, a .pre .2 (loop (parts c) .loop .i))
+add-width c =
+    let a = start (parts c) in
+    let i = loop (parts c) .loop .i in
+    omega (arith, a .pre .2 i, a .pre .3 i)
 
 reach-from-requires : tie.Need-reach-from-requires Inv-loop μ-loop
 reach-from-requires c κs =
     let a = start (parts c) in
-    rw (middle-is c) (omega (arith, small (parts c), a .pre .2 (loop (parts c) .loop .i)))
+    let i = loop (parts c) .loop .i in
+    rw (middle-is c) (omega (arith, small (parts c), a .pre .2 i, a .pre .3 i))
 
 mul-out : tie.Need-mul-out Inv-loop μ-loop
 mul-out c = search needs
@@ -121,10 +121,11 @@ loop-again : tie.Need-loop-again Inv-loop μ-loop
 loop-again c =
     let s = c .before in
     let l = loop (parts s) .loop in
-    let w : ℕ → ℕ = λ v. getD (start (parts s) .args .sizes .now) (l .i) 0 + v in (
+    let a = start (parts s) .args in
+    let w : ℕ = getD (a .sizes .now) (l .i) 0 + getD (a .radii .now) (l .i) 0 in (
       omega arith,
       ap₂ (λ (o : List ℤ) (z : ℤ). set o (l .i) z) (l .inv .1) (got64 (c .reach-from .ensures
-          ∙ ap₂ (λ x v. reached (start (parts s) .args .up) x (w v)) (middle-is s) (s .widen-u32 .ensures .0)) (c .reach-from .ok))
+          ∙ ap (λ x. reached (a .up) x w) (middle-is s)) (c .reach-from .ok))
           ∙ six-again _ (l .i) (omega arith),
     )
 
@@ -151,9 +152,8 @@ reach-spec =
     add-requires
     mul-width
     element-copy-out-width
-    mul-widen-u32
-    element-copy-out-widen-u32
-    widen-u32-requires
+    mul-width-2
+    element-copy-out-width-2
     add-width
     reach-from-requires
     mul-out

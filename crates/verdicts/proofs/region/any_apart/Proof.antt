@@ -22,15 +22,15 @@ use Rattle.verdicts.proofs.region.any_apart.Statement.{statement}
 use Rattle.verdicts.proofs.region.any_apart.Tie as tie
 
 abbrev Inv-loop : tie.InvT-loop
-Inv-loop n normals bounds s p h q k₀ k-end k = (k-end ≡ length bounds) × (k ≤ length bounds) ×
+Inv-loop n normals bounds s p h q radii k₀ k-end k = (k-end ≡ length bounds) × (k ≤ length bounds) ×
     ((j : ℕ) → j < k → ltZ (at bounds j) (lowAlong (tab n (λ i. at normals (j * n + i))) (view s)) ≡ false)
 
 abbrev μ-loop : tie.MeasureT-loop
-μ-loop n normals bounds s p h q k₀ k-end k = length bounds - k
+μ-loop n normals bounds s p h q radii k₀ k-end k = length bounds - k
 
 module _ (s : tie.In-loop Inv-loop μ-loop) where
   abbrev a : tie.Start Inv-loop μ-loop
-  a = s .before .before
+  a = s .before .before .before .before
 
   abbrev k : ℕ
   k = s .before .loop .k
@@ -52,11 +52,15 @@ answer s t =
     let l = turn s in
     let x = a l .args .t1 in
     let bound = at (a l .args .bounds .now) (k l) in
+    let radii = l .before .before .totals in
     let low : List ℤ → ℕ → ℤ = λ v n.
-    lowBy v (x .centre) (x .exponents) (x .coefficients) (x .vectors) (x .radii) n (x .factors) (x .terms) (x .generators) in
+    lowBy v (x .centre) (x .exponents) (x .coefficients) (x .vectors) (radii .result) n (x .factors) (x .terms) (x .generators) in
     sym (s .is-apart .ensures ∙ ap₂ ltZ (read64 bound (s .before .before .before .before .before .before .before .is-apart-arg2 .given))
     (ap₂ low (part-tab (a l .args .normals .now) (k l * a l .args .n) (a l .args .n) (within l)) (sym (a l .pre .1))
-    ∙ sym (view-low x (normal l)))) ∙ t
+    ∙ sym (view-low x (normal l) (a l .pre .0 .dimension) (radii .ensures .0)))) ∙ t
+
+totals-requires : tie.Need-totals-requires Inv-loop μ-loop
+totals-requires c κs = search needs
 
 loop-holds : tie.Need-loop-holds Inv-loop μ-loop
 loop-holds c = (refl, omega arith, λ k l. absurd (omega arith))
@@ -100,6 +104,7 @@ is-apart-requires c κs =
       limits .factors,
       limits .terms,
       limits .generators,
+      l .before .before .totals .ensures .1,
     )
 
 returns : tie.Need-returns Inv-loop μ-loop
@@ -126,6 +131,7 @@ any-apart-spec =
     (tie.spec
     Inv-loop
     μ-loop
+    totals-requires
     loop-holds
     mul-is-apart
     mul-is-apart-2

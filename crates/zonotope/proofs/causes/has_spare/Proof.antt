@@ -23,28 +23,28 @@ outside-numbers-requires-2 c κs = search needs
 outside-numbers-requires-3 : tie.Need-outside-numbers-requires-3
 outside-numbers-requires-3 c κs = search needs
 
-after-first-requires-2 : tie.Need-after-first-requires-2
-after-first-requires-2 c κs = search needs
+has-spare-requires : tie.Need-has-spare-requires
+has-spare-requires c κs = search needs
 
 returns : tie.Need-returns
 returns c =
-    let v = c .before .before in
+    let v = c .before in
     let g = v .before .before in
     let e = g .before .before in
     let m = e .before .before in
     let k = m .before .before in
     let a = k .before .before .args in
-    let z : Lengths (a .identifiers .now) (a .centre .now) (a .exponents .now) (a .coefficients .now) (a .vectors .now) (a .radii .now) =
+    let z : Lengths (a .identifiers .now) (a .centre .now) (a .exponents .now) (a .coefficients .now) (a .vectors .now) (a .radii) =
     record {
       identifiers = omega arith;
       centre = omega arith;
       exponents = omega arith;
       coefficients = omega arith;
       vectors = omega arith;
-      radii = omega arith;
+      radii = c .has-spare .ensures .1;
     } in (
       ap₂ _||_ (ap₂ _||_ (ap₂ _||_ (ap₂ _||_ (ap₂ _||_ (k .after-first .ensures) (m .outside-numbers .ensures))
-          (e .outside-exponents .ensures)) (g .outside-numbers2 .ensures)) (v .outside-numbers3 .ensures)) (c .after-first2 .ensures)
+          (e .outside-exponents .ensures)) (g .outside-numbers2 .ensures)) (v .outside-numbers3 .ensures)) (c .has-spare .ensures .0)
           ∙ spare-places _ _ _ _ _ _ (a .n) (a .p) (a .h) (a .q) z,
       z,
     )
@@ -58,5 +58,5 @@ has-spare-spec =
     outside-exponents-requires
     outside-numbers-requires-2
     outside-numbers-requires-3
-    after-first-requires-2
+    has-spare-requires
     returns)
