@@ -14,14 +14,18 @@ use Rattle.whole.specs.Tab.{tab, any, length-tab, getD-tab, getD-tab-past}
 use Rattle.whole.specs.Size.{abs-zero}
 use Rattle.whole.specs.Sum.{sumBy, sumℕ}
 use Rattle.model.specs.Limits.{maxSpan}
-use Rattle.model.specs.Set.{Term, at, span, termSizes, generatorSizes}
+use Rattle.model.specs.Set as Set
+use Rattle.model.specs.Set.{Term, at, radius, span, termSizes, generatorSizes}
 use Rattle.model.specs.Valid.{badCounts, tooWide}
 use Rattle.model.proofs.Tests.{or-false, any-false, tab-all}
+use Rattle.model.proofs.Radii.{radius-past}
 use Rattle.model.proofs.Shape.{counted}
+use Rattle.zonotope.specs.declared.Radii.{Radii}
 use Rattle.zonotope.specs.declared.PolyZonotope.{PolyZonotope}
 use Rattle.arrays.specs.Rows.{row}
 use Rattle.arrays.specs.Spare.{spareℕ, spareℤ, inRows}
-use Rattle.zonotope.specs.Record.{view, spare}
+use Rattle.zonotope.specs.Record.{firsts, view, spareParts, spare}
+use Rattle.zonotope.proofs.ViewPack.{view-shaped}
 
 -- the tests 4, 7 and 8 of a record that is accepted, as far as sums need them
 pub record Examined (s : PolyZonotope) : Type 0 where
@@ -79,6 +83,13 @@ part f zero g t h = absurd (omega arith)
 part f (suc n) g zero h = omega arith
 part f (suc n) g (suc t) h = let p = part f n (λ i. g (suc i)) t (omega arith) in omega arith
 
+-- ---- radii: the parts of a record are those of its set, continued by zeros
+pub record RadiiWide (r : Radii) (m : Set.Radii) : Type 0 where
+  pub carried : (i : ℕ) → i < 6 → getD (r .carried) i 0 ≡ getD (m .carried) i 0
+  pub rounded : (i : ℕ) → i < 6 → getD (r .rounded) i 0 ≡ getD (m .rounded) i 0
+  pub folded : (i : ℕ) → i < 6 → getD (r .folded) i 0 ≡ getD (m .folded) i 0
+  pub given : (i : ℕ) → i < 6 → getD (r .given) i 0 ≡ getD (m .given) i 0
+
 -- ---- rows of 6 numbers
 -- row t of the coefficients, and of the generators
 abbrev pub termRow : PolyZonotope → ℕ → List ℤ
@@ -97,10 +108,10 @@ module _ (s : PolyZonotope) (x : Examined s) where
   unused-parts : (spareℤ (s .centre) 6 (λ i. ltb i (s .dimension)) ≡ false)
       × (spareℤ (s .coefficients) 240 (inRows 6 (s .terms) (s .dimension)) ≡ false)
       × (spareℤ (s .vectors) 144 (inRows 6 (s .generators) (s .dimension)) ≡ false)
-      × (spareℕ (s .radii) 6 (λ i. ltb i (s .dimension)) ≡ false)
+      × (spareParts (s .radii) (s .dimension) ≡ false)
   unfolding spare
   unused-parts =
-      let a = or-false _ (spareℕ (s .radii) 6 (λ i. ltb i (s .dimension))) (x .unused) in
+      let a = or-false _ (spareParts (s .radii) (s .dimension)) (x .unused) in
       let b = or-false _ (spareℤ (s .vectors) 144 (inRows 6 (s .generators) (s .dimension))) (a .0) in
       let c = or-false _ (spareℤ (s .coefficients) 240 (inRows 6 (s .terms) (s .dimension))) (b .0) in
       let d = or-false _ (spareℕ (s .exponents) 480 (inRows 12 (s .terms) (s .factors))) (c .0) in
@@ -137,14 +148,32 @@ module _ (s : PolyZonotope) (x : Examined s) where
   unfolding view span
   centre-small i = limited natAbs (pos 0) (λ i. getD (s .centre) i (pos 0)) i refl (λ l. omega arith)
 
-  pub radii-wide : (i : ℕ) → i < 6 → getD (s .radii) i 0 ≡ getD (view s .radii) i 0
-  unfolding view
-  radii-wide i h = shown 0 (s .dimension) (λ i. getD (s .radii) i 0) i (λ l.
-      zero-unused (λ i. getD (s .radii) i 0) (λ i. ltb i (s .dimension)) 6 (unused-parts .3) i h (le-ltb i (s .dimension) l))
+  -- a part of the radii in which no unused place is other than 0
+  part-wide : (r : List ℕ) → spareℕ r 6 (λ i. ltb i (s .dimension)) ≡ false → (i : ℕ) → i < 6 → getD r i 0 ≡
+      getD (firsts (s .dimension) r) i 0
+  part-wide r e i h = shown 0 (s .dimension) (λ i. getD r i 0) i (λ l.
+      zero-unused (λ i. getD r i 0) (λ i. ltb i (s .dimension)) 6 e i h (le-ltb i (s .dimension) l))
 
-  pub radii-small : (i : ℕ) → getD (view s .radii) i 0 ≤ maxSpan
+  pub radii-wide : RadiiWide (s .radii) (view s .radii)
+  unfolding view
+  radii-wide =
+      let a = or-false _ (spareℕ (s .radii .given) 6 (λ i. ltb i (s .dimension))) (unused-parts .3) in
+      let b = or-false _ (spareℕ (s .radii .folded) 6 (λ i. ltb i (s .dimension))) (a .0) in
+      let c = or-false (spareℕ (s .radii .carried) 6 (λ i. ltb i (s .dimension)))
+      (spareℕ (s .radii .rounded) 6 (λ i. ltb i (s .dimension))) (b .0) in
+      record {
+        carried = part-wide (s .radii .carried) (c .0);
+        rounded = part-wide (s .radii .rounded) (c .1);
+        folded = part-wide (s .radii .folded) (b .1);
+        given = part-wide (s .radii .given) (a .1);
+      }
+
+  pub radii-small : (i : ℕ) → radius (view s) i ≤ maxSpan
   unfolding view span
-  radii-small i = limited (λ n. n) 0 (λ i. getD (s .radii) i 0) i refl (λ l. omega arith)
+  radii-small i = go (decLt i (s .dimension)) where
+    go : Dec (i < s .dimension) → radius (view s) i ≤ maxSpan
+    go (yes l) = omega (arith, span-small i l)
+    go (no l) = omega (arith, radius-past (view-shaped s .radii-long) i (omega arith))
 
   pub terms-held : Holds (s .coefficients) (s .terms) (termRow s)
   unfolding view span termSizes

@@ -1,7 +1,7 @@
 -- The rows, the centre and the radii that are written for two examined records are those of the model's sum.
 use mathlib.Core.Path.{_≡_, refl, sym, _∙_, ap, ap₂, subst}
 use mathlib.Core.List.{List, _++_, map, map-append}
-use Prim.Native.Nat.{ℕ, _+_, _-_, _*_, _≤_}
+use Prim.Native.Nat.{ℕ, _+_, _-_, _*_, _<_, _≤_}
 use native.Mathlib.Omega.{arith}
 use lib.ListN.{length, getD}
 use lib.IntN.{ℤ, pos, natAbs, _+ℤ_, _*ℤ_}
@@ -9,12 +9,13 @@ use Rattle.whole.specs.Tab.{tab, tab-cong, map-tab, length-tab}
 use Rattle.whole.specs.Ring.{one-*ℤ}
 use Rattle.whole.specs.Size.{abs-add}
 use Rattle.model.specs.Limits.{maxSpan}
-use Rattle.model.specs.Set.{Term, Zonotope, at}
+use Rattle.model.specs.Set.{Term, Zonotope, at, radius, plusℕ}
+use Rattle.model.proofs.Radii.{radius-plus}
 use Rattle.model.specs.Operations.{union, align, aligned, joined, renumbered}
 use Rattle.model.proofs.Vectors.{plusℤ-at, plusℕ-at}
 use Rattle.zonotope.specs.declared.PolyZonotope.{PolyZonotope}
 use Rattle.arrays.specs.Rows.{row}
-use Rattle.zonotope.specs.Record.{view}
+use Rattle.zonotope.specs.Record.{widePartsOf, firsts, firstParts, view}
 use Rattle.rows.specs.Rows.{exponentRow, numberRow, termOf, rowsOf, Small}
 use Rattle.align.specs.declared.Identifiers.{Identifiers}
 use Rattle.align.specs.declared.Sum.{Sum}
@@ -23,6 +24,7 @@ use Rattle.align.specs.Align.{alignedAt}
 use Rattle.align.specs.Runs.{flat, flat-at, tab-++, twice, row-first, row-second, after-both}
 use Rattle.align.specs.Examined.{Examined, counts, termRow, generatorRow, terms-held, generators-held, centre-wide}
 use Rattle.align.specs.Examined.{centre-small, radii-wide, radii-small}
+use Rattle.align.specs.Radii.{addedParts, addedRadii}
 use Rattle.align.specs.Numbers.{numbers, numbers-first, numbers-second, numbers-small, numbers-kept}
 use Rattle.align.specs.Sum.{wideVector, wideTerm, named, summed, exponentsOf, Factors, Common, Terms, Generators, Joined}
 
@@ -132,19 +134,34 @@ module _ (a b : PolyZonotope) (x : Examined a) (y : Examined b) where
     joins-centre = tab-cong 6 _ _ (λ i l. ap₂ _+ℤ_ (centre-wide a x i l) (one-*ℤ (getD (b .centre) i (pos 0)) ∙ centre-wide b y i l)
         ∙ sym (plusℤ-at (view a .centre) (view b .centre) i))
 
-    pub joins-radii : tab 6 (λ i. getD (a .radii) i 0 + getD (b .radii) i 0) ≡ tab 6 (λ i. getD (summed a b ids .radii) i 0)
+    -- a part of both, added
+    parts-add : (p q p′ q′ : List ℕ) → ((i : ℕ) → i < 6 → getD p i 0 ≡ getD p′ i 0) → ((i : ℕ) → i < 6 → getD q i 0 ≡ getD q′ i 0)
+        → addedParts p q ≡ firsts 6 (plusℕ p′ q′)
+    parts-add p q p′ q′ d e = tab-cong 6 _ _ (λ i l. ap₂ _+_ (d i l) (e i l) ∙ sym (plusℕ-at p′ q′ i))
+
+    pub joins-radii : widePartsOf (addedRadii (a .radii) (b .radii)) ≡ firstParts 6 (summed a b ids .radii)
     unfolding joined
-    joins-radii = tab-cong 6 _ _ (λ i l. ap₂ _+_ (radii-wide a x i l) (radii-wide b y i l)
-        ∙ sym (plusℕ-at (view a .radii) (view b .radii) i))
+    joins-radii =
+        let v = radii-wide a x in
+        let w = radii-wide b y in
+        λ i. record {
+          carried = parts-add (a .radii .carried) (b .radii .carried) (view a .radii .carried) (view b .radii .carried) (v .carried)
+              (w .carried) i;
+          rounded = parts-add (a .radii .rounded) (b .radii .rounded) (view a .radii .rounded) (view b .radii .rounded) (v .rounded)
+              (w .rounded) i;
+          folded = parts-add (a .radii .folded) (b .radii .folded) (view a .radii .folded) (view b .radii .folded) (v .folded)
+              (w .folded) i;
+          given = parts-add (a .radii .given) (b .radii .given) (view a .radii .given) (view b .radii .given) (v .given) (w .given) i;
+        }
 
     pub joins-centre-small : (i : ℕ) → natAbs (at (summed a b ids .centre) i) ≤ 2 * maxSpan
     unfolding joined
     joins-centre-small i = rw (plusℤ-at (view a .centre) (view b .centre) i)
         (omega (arith, abs-add (at (view a .centre) i) (at (view b .centre) i), centre-small a x i, centre-small b y i))
 
-    pub joins-radii-small : (i : ℕ) → getD (summed a b ids .radii) i 0 ≤ 2 * maxSpan
+    pub joins-radii-small : (i : ℕ) → radius (summed a b ids) i ≤ 2 * maxSpan
     unfolding joined
-    joins-radii-small i = rw (plusℕ-at (view a .radii) (view b .radii) i) (omega (arith, radii-small a x i, radii-small b y i))
+    joins-radii-small i = omega (arith, radius-plus (view a .radii) (view b .radii) i, radii-small a x i, radii-small b y i)
 
 -- ---- which sum it is
 -- what is promised of a sum is promised of an equal one

@@ -3,12 +3,13 @@
 --     exponents written for the factors of both sets      Align
 --     places and rows written one after the other         Runs, Numbers
 --     what examining a record gives                       Examined
---     the sum that is promised, and that it is written    Sum, Joins
+--     the sum that is promised, and that it is written    Sum, Radii, Joins
 pub mod Listed
 pub mod Insert
 pub mod Align
 pub mod Runs
 pub mod Examined
 pub mod Sum
+pub mod Radii
 pub mod Numbers
 pub mod Joins

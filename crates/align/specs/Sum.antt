@@ -6,10 +6,10 @@ use lib.ListN.{length, getD}
 use lib.IntN.{ℤ, pos, natAbs}
 use Rattle.whole.specs.Tab.{tab}
 use Rattle.model.specs.Limits.{maxSpan}
-use Rattle.model.specs.Set.{Term, Zonotope, at}
+use Rattle.model.specs.Set.{Term, Zonotope, at, radius}
 use Rattle.model.specs.Operations.{joined}
 use Rattle.zonotope.specs.declared.PolyZonotope.{PolyZonotope}
-use Rattle.zonotope.specs.Record.{view}
+use Rattle.zonotope.specs.Record.{widePartsOf, firstParts, view}
 use Rattle.rows.specs.Rows.{numberRow, rowsOf, Small}
 use Rattle.align.specs.declared.Identifiers.{Identifiers}
 use Rattle.align.specs.declared.Sum.{Sum}
@@ -82,6 +82,6 @@ pub record Joined (m : Zonotope) (all : Identifiers) (s : Sum) (e₀ e : List �
   pub terms : Terms m e₀ e c₀ c (s .terms)
   pub generators : Generators m g₀ g (s .generators)
   pub centre : s .centre ≡ wideVector (m .centre)
-  pub radii : s .radii ≡ tab 6 (λ i. getD (m .radii) i 0)
+  pub radii : widePartsOf (s .radii) ≡ firstParts 6 (m .radii)
   pub centre-small : (i : ℕ) → natAbs (at (m .centre) i) ≤ 2 * maxSpan
-  pub radii-small : (i : ℕ) → getD (m .radii) i 0 ≤ 2 * maxSpan
+  pub radii-small : (i : ℕ) → radius m i ≤ 2 * maxSpan

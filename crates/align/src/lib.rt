@@ -24,7 +24,7 @@ pub struct Sum {
     pub terms: usize,
     pub generators: usize,
     pub centre: [i64; 6],
-    pub radii: [u64; 6],
+    pub radii: zonotope::WideRadii,
 }
 
 // The identifiers of the tied sum: equal ones are one factor.
@@ -98,7 +98,9 @@ fn join(
     let terms = join_terms(a, b, ids, all, e, c);
     let generators = join_generators(a, b, g);
     let centre = wide::add_centres(&a.centre, 1, &b.centre);
-    let radii = wide::add_radii(&a.radii, &b.radii);
+    let first = a.radii;
+    let second = b.radii;
+    let radii = wide::add_radii(first, second);
     Sum {
         terms,
         generators,

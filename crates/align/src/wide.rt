@@ -8,7 +8,10 @@ ghost use Rattle.whole.specs.Write.{write};
 ghost use Rattle.align.specs.Listed.{listed};
 ghost use Rattle.align.specs.Align.{meet, alignedAt};
 ghost use Rattle.align.specs.Runs.{flat};
+ghost use Rattle.align.specs.Radii.{addedParts, addedRadii};
 use crate::numbering;
+use zonotope::Radii;
+use zonotope::WideRadii;
 
 // Whether factor i of the first p is factor k of the first n.
 fn meets(ids: &[u32; 12], p: usize, i: usize, all: &[u32; 24], n: usize, k: usize) -> bool
@@ -107,9 +110,25 @@ fn add_wide(x: i32, sign: i64, y: i32) -> i64
     whole::multiply_add(a, sign, b)
 }
 
-// The sum of the radii of two sets.
-pub fn add_radii(a: &[u32; 6], b: &[u32; 6]) -> [u64; 6]
-    ensures { λ r. ⌜ r ≡ tab 6 (λ i. getD (now (a .entry)) i 0 + getD (now (b .entry)) i 0) ⌝ }
+// The sums of like parts of the radii of two sets.
+pub fn add_radii(a: Radii, b: Radii) -> WideRadii
+    ensures { λ r. ⌜ r ≡ addedRadii a b ⌝ }
+{
+    let carried = add_parts(&a.carried, &b.carried);
+    let rounded = add_parts(&a.rounded, &b.rounded);
+    let folded = add_parts(&a.folded, &b.folded);
+    let given = add_parts(&a.given, &b.given);
+    WideRadii {
+        carried,
+        rounded,
+        folded,
+        given,
+    }
+}
+
+// The sums of two parts.
+fn add_parts(a: &[u32; 6], b: &[u32; 6]) -> [u64; 6]
+    ensures { λ r. ⌜ r ≡ addedParts (now (a .entry)) (now (b .entry)) ⌝ }
 {
     let mut out = [0u64; 6];
     for i in 0..6 {

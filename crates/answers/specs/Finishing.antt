@@ -8,22 +8,24 @@ use native.Mathlib.Omega.{arith}
 use lib.ListN.{length, getD, take, replicate, length-replicate, List·getD-eq-default}
 use lib.Seq.{length-take-le}
 use lib.IntN.{ℤ, pos, natAbs}
-use Rattle.whole.specs.Tab.{tab-cong}
+use Rattle.whole.specs.Tab.{tab, tab-cong, getD-tab, getD-tab-past}
 use Rattle.whole.specs.Write.{getD-take}
 use Rattle.rational.specs.Sum.{All, none, more}
-use Rattle.model.specs.Set.{Zonotope}
+use Rattle.model.specs.Set.{Radii, Zonotope, radiusOf, blank}
+use Rattle.model.proofs.Radii.{blank-at}
 use Rattle.model.specs.Valid.{tooWide}
 use Rattle.model.specs.Finish.{finish}
 use Rattle.model.specs.Limits.{standardWeights}
 use Rattle.model.specs.Run.{_if_, firstOf, noSet}
 use Rattle.zonotope.specs.declared.PolyZonotope.{PolyZonotope}
-use Rattle.zonotope.specs.Record.{pack}
+use Rattle.zonotope.specs.declared.WideRadii.{WideRadii}
+use Rattle.zonotope.specs.Record.{widePartsOf, firstParts, anew, pack}
 use Rattle.rows.specs.Rows.{rowsOf, Small}
 use Rattle.fold.specs.Marks.{same-at}
 use Rattle.fold.specs.Folding.{Under}
 use Rattle.finish.specs.declared.Unfinished.{Unfinished}
 use Rattle.finish.specs.declared.Finished.{Finished}
-use Rattle.finish.specs.Held.{held, Reducible, Widened, finishedAs}
+use Rattle.finish.specs.Held.{PartsUnder, held, Reducible, Widened, finishedAs}
 use Rattle.finish.specs.Wide.{wide}
 use Rattle.finish.specs.WideFinish.{Narrow}
 use Rattle.finish.specs.WideRecord.{finish-pack, finish-tooWide}
@@ -41,8 +43,32 @@ pub record Finishable (u : Unfinished) (e : List ℕ) (c : List ℤ) (rows : ℕ
   pub numbers-small : Small (2 ^ 40) c
   pub generators-small : Small (2 ^ 40) g
   pub centre-small : Small (2 ^ 40) (u .centre)
-  pub radii-small : Under (2 ^ 40) (u .radii)
+  pub radii-small : PartsUnder (2 ^ 40) (u .radii)
   pub widened : Widened (held u e c rows g generators)
+
+-- ---- parts that are small
+-- no number of a table exceeds what bounds each
+pub under-in : {b : ℕ} (n : ℕ) (f : ℕ → ℕ) → ((i : ℕ) → i < n → f i ≤ b) → Under b (tab n f)
+under-in {b} n f h = record { under = λ i. go i (decLt i n) } where
+  go : (i : ℕ) → Dec (i < n) → getD (tab n f) i 0 ≤ b
+  go i (yes l) = rw (getD-tab n f 0 i l) (h i l)
+  go i (no l) = rw (getD-tab-past n f 0 i (omega arith)) (omega arith)
+
+-- where the radii are small, their parts are
+pub parts-under : {b : ℕ} (r : WideRadii) (q : Radii) → widePartsOf r ≡ firstParts 6 q → ((i : ℕ) → radiusOf q i ≤ b) → PartsUnder b r
+unfolding radiusOf
+parts-under {b} r q e h = record {
+  carried = subst (Under b) (sym (ap (λ (p : Radii). p .carried) e)) (under-in 6 _ (λ i l. omega (arith, h i)));
+  rounded = subst (Under b) (sym (ap (λ (p : Radii). p .rounded) e)) (under-in 6 _ (λ i l. omega (arith, h i)));
+  folded = subst (Under b) (sym (ap (λ (p : Radii). p .folded) e)) (under-in 6 _ (λ i l. omega (arith, h i)));
+  given = subst (Under b) (sym (ap (λ (p : Radii). p .given) e)) (under-in 6 _ (λ i l. omega (arith, h i)));
+}
+
+-- so are those that are made anew
+pub anew-under : {b : ℕ} (c d : List ℕ) → ((i : ℕ) → getD c i 0 ≤ b) → ((i : ℕ) → getD d i 0 ≤ b) → PartsUnder b (anew c d)
+anew-under {b} c d h k =
+    let none : Under b (blank 6) = record { under = λ i. omega (arith, blank-at 6 i) } in
+    record { carried = record { under = h }; rounded = record { under = k }; folded = none; given = none }
 
 -- ---- the answer for a finished result
 -- what finishing gives by whether the result is too wide, and its record

@@ -13,10 +13,11 @@ use Rattle.whole.specs.Sum.{sumBy, sumℕ, sum-map}
 use Rattle.whole.specs.Tab.{tab, any, length-tab}
 use Rattle.rational.specs.Sum.{All, none, more, All-imp}
 use Rattle.model.specs.Limits.{maxSpan}
-use Rattle.model.specs.Set.{Zonotope, at, termSizes, generatorSizes, span}
+use Rattle.model.specs.Set.{Zonotope, at, radius, termSizes, generatorSizes, span}
 use Rattle.model.specs.Valid.{occurs, tooWide}
 use Rattle.model.specs.Finish.{keepExponents, dropUnused, finish}
 use Rattle.model.specs.Run.{noSet}
+use Rattle.model.proofs.Radii.{radius-past}
 use Rattle.model.proofs.Tests.{any-false, tab-all}
 use Rattle.zonotope.specs.Record.{pack}
 use Rattle.zonotope.specs.declared.PolyZonotope.{PolyZonotope}
@@ -30,7 +31,7 @@ use Rattle.finish.specs.WideFinish.{Narrow, reduced-wide, reduced-narrow
 use Rattle.finish.specs.WideRecord.{span-wide}
 use Rattle.finish.specs.Held.{heldBy, Holds, Widened, finishedAs}
 use Rattle.finish.specs.Spans.{heldSpan, span-held}
-use Rattle.finish.specs.Numbers.{narrowable}
+use Rattle.finish.specs.Numbers.{narrowable, parts-narrow}
 use Rattle.finish.specs.Packing.{Packable}
 
 -- ---- past the set's own coordinates and factors a wide set holds nothing
@@ -49,12 +50,12 @@ module _ (s : Zonotope) (n : Narrow s) where
       ap₂ _+_ (ap₂ _+_ (ap₂ _+_ (blank (s .centre) (n .shaped .centre-long))
       (sum-none (λ t. natAbs (at (t .coefficients) i)) (All-imp (λ t r. blank (t .coefficients) (r .coefficients-long)) (n .shaped .rows))))
       (sum-none (λ g. natAbs (at g i)) (All-imp blank (n .shaped .generators-long))))
-      (List·getD-eq-default (s .radii) 0 (omega arith))
+      (radius-past long i h)
 
   wide-span-past : (i : ℕ) → s .dimension ≤ i → i < 6 → span (wide s) i ≡ 0
   unfolding span termSizes generatorSizes wide wideNumbers
   wide-span-past i h l =
-      ap (λ (x : ℕ). natAbs (at (wide s .centre) i) + x + generatorSizes (wide s) i + getD (wide s .radii) i 0)
+      ap (λ (x : ℕ). natAbs (at (wide s .centre) i) + x + generatorSizes (wide s) i + radius (wide s) i)
       (sum-map 0 _+_ (λ t. natAbs (at (t .coefficients) i)) wideTerm (s .terms)
       ∙ sym (sum-map 0 _+_ (λ t. natAbs (at (t .coefficients) i)) wideCoefficients (s .terms)))
       ∙ span-wide s i l
@@ -69,7 +70,7 @@ module _ (s : Zonotope) (n : Narrow s) where
 span-kept : (m : Zonotope) (i : ℕ) → span (dropUnused m) i ≡ span m i
 unfolding span termSizes generatorSizes dropUnused
 span-kept m i =
-    ap (λ (x : ℕ). natAbs (at (m .centre) i) + x + generatorSizes m i + getD (m .radii) i 0)
+    ap (λ (x : ℕ). natAbs (at (m .centre) i) + x + generatorSizes m i + radius m i)
     (sum-map 0 _+_ (λ t. natAbs (at (t .coefficients) i)) (keepExponents (occurs (m .terms))) (m .terms))
 
 tooWide-kept : (m : Zonotope) → tooWide (dropUnused m) ≡ tooWide m
@@ -108,7 +109,7 @@ module _ (weights : List ℕ) (h q : ℕ) {u : Unfinished} {k : Reduced} {e head
   dimension-few = omega (arith, dimension-is, narrow-left .coordinates)
 
   module _ (f : tooWide (heldBy u k e heads s g) ≡ false) where
-    spans-within : (i : ℕ) → i < 6 → heldSpan k s g i ≤ maxSpan
+    spans-within : (i : ℕ) → i < 6 → heldSpan (u .radii) k s g i ≤ maxSpan
     spans-within i l = subst (_≤ maxSpan) (span-held u k e heads s g i l) (go (decLt i (u .dimension))) where
       go : Dec (i < u .dimension) → span (heldBy u k e heads s g) i ≤ maxSpan
       go (yes p) = span-within (heldBy u k e heads s g) f i p
@@ -117,7 +118,8 @@ module _ (weights : List ℕ) (h q : ℕ) {u : Unfinished} {k : Reduced} {e head
 
     pub packable : Packable u k e heads s g
     packable = record {
-      numbers = narrowable (v .sized) spans-within;
+      numbers = narrowable (u .radii) (v .sized) spans-within;
+      radii = parts-narrow (u .radii) k s g spans-within;
       places-long = v .places-long;
       rows = v .rows;
       factors-few = omega (arith, factors-are, narrow-left .factors);

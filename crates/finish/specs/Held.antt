@@ -6,11 +6,12 @@ use Prim.Native.Nat.{ℕ, _*_, _^_, _≤_}
 use lib.ListN.{length, getD}
 use lib.IntN.{ℤ}
 use Rattle.whole.specs.Tab.{tab}
-use Rattle.model.specs.Set.{Term, Zonotope}
+use Rattle.model.specs.Set.{Term, Zonotope, withFolded}
 use Rattle.model.specs.Valid.{tooWide}
 use Rattle.model.specs.Finish.{Core}
 use Rattle.model.specs.Run.{noSet}
-use Rattle.zonotope.specs.Record.{pack}
+use Rattle.zonotope.specs.declared.WideRadii.{WideRadii}
+use Rattle.zonotope.specs.Record.{widePartsOf, pack}
 use Rattle.rows.specs.Rows.{numberRow, terms, rowsOf, Places, Small}
 use Rattle.fold.specs.Folding.{Under, coreOf}
 use Rattle.finish.specs.declared.Unfinished.{Unfinished}
@@ -27,19 +28,26 @@ setOf u k ts gs = record {
   centre = k .centre;
   terms = ts;
   generators = gs;
-  radii = k .radii;
+  radii = withFolded (widePartsOf (u .radii)) (k .radii);
 }
 
 -- the unfinished result with the first `rows` rows of e and c as its terms, the first rows of g as its generators
 abbrev pub held : Unfinished → List ℕ → List ℤ → ℕ → List ℤ → ℕ → Zonotope
-held u e c rows g generators = setOf u (coreOf (u .centre) (u .radii)) (rowsOf e c rows) (tab generators (numberRow g))
+held u e c rows g generators = setOf u (coreOf (u .centre) (u .radii .folded)) (rowsOf e c rows) (tab generators (numberRow g))
 
 -- what is left of it, with the terms by their places
 abbrev pub heldBy : Unfinished → Reduced → List ℕ → List ℕ → List ℤ → List ℤ → Zonotope
 heldBy u k e heads s g =
-    setOf u (coreOf (k .centre) (k .radii)) (terms e heads s (k .terms)) (tab (k .generators) (numberRow g))
+    setOf u (coreOf (k .centre) (k .folded)) (terms e heads s (k .terms)) (tab (k .generators) (numberRow g))
 
 -- ---- lengths and sizes for which nothing overflows
+-- no part of the radii exceeds b
+pub record PartsUnder (b : ℕ) (r : WideRadii) : Type 0 where
+  pub carried : Under b (r .carried)
+  pub rounded : Under b (r .rounded)
+  pub folded : Under b (r .folded)
+  pub given : Under b (r .given)
+
 -- before the stages; `places` and `heads` are as long as there are rows
 pub record Reducible (u : Unfinished) (e : List ℕ) (c : List ℤ) (places heads : List ℕ) (s g : List ℤ)
     (generators termLimit generatorLimit : ℕ)
@@ -56,7 +64,7 @@ pub record Reducible (u : Unfinished) (e : List ℕ) (c : List ℤ) (places head
   pub generators-long : generators * 6 ≤ length g
   pub generators-small : Small (2 ^ 40) g
   pub centre-small : Small (2 ^ 40) (u .centre)
-  pub radii-small : Under (2 ^ 40) (u .radii)
+  pub radii-small : PartsUnder (2 ^ 40) (u .radii)
   pub weights-small : Under 1000 weights
   pub term-limit : termLimit ≤ 40
   pub generator-limit : generatorLimit ≤ 24
@@ -67,7 +75,7 @@ pub record Foldable (u : Unfinished) (g : List ℤ) (m termLimit generatorLimit 
   pub generators-long : m * 6 ≤ length g
   pub generators-small : Small (2 ^ 50) g
   pub centre-small : Small (2 ^ 40) (u .centre)
-  pub radii-small : Under (2 ^ 40) (u .radii)
+  pub folded-small : Under (2 ^ 40) (u .radii .folded)
   pub weights-small : Under 1000 weights
   pub term-limit : termLimit ≤ 40
   pub generator-limit : generatorLimit ≤ 24
@@ -81,7 +89,7 @@ pub record RowsLong (k : Reduced) (s g : List ℤ) : Type 0 where
   pub generators-long : k .generators * 6 ≤ length g
   pub generators-small : Small (2 ^ 50) g
   pub centre-small : Small (2 ^ 61) (k .centre)
-  pub radii-small : Under (2 ^ 61) (k .radii)
+  pub folded-small : Under (2 ^ 61) (k .folded)
 
 -- ---- what is left is the set m
 pub record Holds (u : Unfinished) (k : Reduced) (e heads : List ℕ) (s g : List ℤ) (m : Zonotope) : Type 0 where

@@ -11,7 +11,9 @@ use Rattle.whole.specs.Sum.{uptoBy, uptoℕ}
 use Rattle.whole.specs.Tab.{tab, length-tab, getD-tab, getD-tab-past}
 use Rattle.whole.specs.Write.{write, write-length, write-at, write-after}
 use Rattle.model.specs.Limits.{maxSpan}
-use Rattle.model.specs.Set.{at}
+use Rattle.model.specs.Set.{Radii, at, radiusOf, withFolded}
+use Rattle.zonotope.specs.declared.WideRadii.{WideRadii}
+use Rattle.zonotope.specs.Record.{widePartsOf}
 use Rattle.rows.specs.Rows.{numberRow}
 use Rattle.finish.specs.declared.Reduced.{Reduced}
 use Rattle.finish.specs.Held.{RowsLong}
@@ -25,7 +27,14 @@ pub record WithinSpan (n : ℕ) (xs : List ℤ) : Type 0 where
 abbrev pub numbersArray : ℕ → List ℤ → ℕ → List ℤ
 numbersArray w s n = tab w (λ x. at (getD (tab n (numberRow s)) (x / 6) []) (x % 6))
 
--- the set's numbers fit 32 bits
+-- no span exceeds a part of radii of six coordinates
+pub record PartsNarrow (r : Radii) : Type 0 where
+  pub carried : (i : ℕ) → i < 6 → getD (r .carried) i 0 ≤ maxSpan
+  pub rounded : (i : ℕ) → i < 6 → getD (r .rounded) i 0 ≤ maxSpan
+  pub folded : (i : ℕ) → i < 6 → getD (r .folded) i 0 ≤ maxSpan
+  pub given : (i : ℕ) → i < 6 → getD (r .given) i 0 ≤ maxSpan
+
+-- the set's numbers but for its radii fit 32 bits
 pub record Narrowable (k : Reduced) (s g : List ℤ) : Type 0 where
   pub terms-few : k .terms ≤ 40
   pub terms-long : k .terms * 6 ≤ length s
@@ -34,14 +43,12 @@ pub record Narrowable (k : Reduced) (s g : List ℤ) : Type 0 where
   pub centre-within : WithinSpan 6 (k .centre)
   pub terms-within : WithinSpan (k .terms * 6) s
   pub generators-within : WithinSpan (k .generators * 6) g
-  pub radii-within : (i : ℕ) → i < 6 → getD (k .radii) i 0 ≤ maxSpan
 
 -- the arrays of the record
-pub record Narrowed (k : Reduced) (s g centre coefficients vectors : List ℤ) (radii : List ℕ) : Type 0 where
+pub record Narrowed (k : Reduced) (s g centre coefficients vectors : List ℤ) : Type 0 where
   pub centre-is : centre ≡ tab 6 (at (k .centre))
   pub coefficients-are : coefficients ≡ numbersArray 240 s (k .terms)
   pub vectors-are : vectors ≡ numbersArray 144 g (k .generators)
-  pub radii-are : radii ≡ tab 6 (λ i. getD (k .radii) i 0)
 
 -- ---- rows written to an array of zeros
 pub numbers-array : (zs : List ℤ) (w : ℕ) (s : List ℤ) (n : ℕ) → length zs ≡ w → ((x : ℕ) → at zs x ≡ pos 0) → n * 6 ≤ w
@@ -87,8 +94,9 @@ column-within s n h = record {
       subst (λ (y : ℕ). natAbs (at s y) ≤ maxSpan) q (omega arith);
 }
 
-pub narrowable : {k : Reduced} {s g : List ℤ} → RowsLong k s g → ((i : ℕ) → i < 6 → heldSpan k s g i ≤ maxSpan) → Narrowable k s g
-narrowable {k} {s} {g} v h = record {
+pub narrowable : (r : WideRadii) {k : Reduced} {s g : List ℤ} → RowsLong k s g → ((i : ℕ) → i < 6 → heldSpan r k s g i ≤ maxSpan)
+    → Narrowable k s g
+narrowable r {k} {s} {g} v h = record {
   terms-few = v .terms-few;
   terms-long = v .terms-long;
   generators-few = v .generators-few;
@@ -96,5 +104,14 @@ narrowable {k} {s} {g} v h = record {
   centre-within = record { within = λ i l. omega (arith, h i l) };
   terms-within = column-within s (k .terms) (λ i l. omega (arith, h i l));
   generators-within = column-within g (k .generators) (λ i l. omega (arith, h i l));
-  radii-within = λ i l. omega (arith, h i l);
+}
+
+pub parts-narrow : (r : WideRadii) (k : Reduced) (s g : List ℤ) → ((i : ℕ) → i < 6 → heldSpan r k s g i ≤ maxSpan)
+    → PartsNarrow (withFolded (widePartsOf r) (k .folded))
+unfolding radiusOf
+parts-narrow r k s g h = record {
+  carried = λ i l. omega (arith, h i l);
+  rounded = λ i l. omega (arith, h i l);
+  folded = λ i l. omega (arith, h i l);
+  given = λ i l. omega (arith, h i l);
 }

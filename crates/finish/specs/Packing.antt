@@ -8,10 +8,11 @@ use native.Mathlib.Omega.{arith}
 use lib.ListN.{length, length-map, getD}
 use lib.IntN.{ℤ}
 use Rattle.whole.specs.Tab.{tab, length-tab, getD-tab, getD-tab-past, tab-cong, map-tab}
-use Rattle.model.specs.Set.{Term, at}
+use Rattle.model.specs.Set.{Term, at, withFolded}
 use Rattle.model.specs.Valid.{occurs}
 use Rattle.model.specs.Finish.{keepAt, keepExponents, dropUnused}
-use Rattle.zonotope.specs.Record.{noTerm, pack}
+use Rattle.zonotope.specs.declared.Radii.{Radii}
+use Rattle.zonotope.specs.Record.{widePartsOf, packedRadii, noTerm, pack}
 use Rattle.zonotope.specs.declared.PolyZonotope.{PolyZonotope}
 use Rattle.rows.specs.Rows.{numberRow, termOf, terms, Places}
 use Rattle.factors.specs.Kept.{kept-front}
@@ -19,11 +20,12 @@ use Rattle.factors.specs.Unused.{twelve, WithoutUnused}
 use Rattle.finish.specs.declared.Unfinished.{Unfinished}
 use Rattle.finish.specs.declared.Reduced.{Reduced}
 use Rattle.finish.specs.Held.{heldBy}
-use Rattle.finish.specs.Numbers.{Narrowable, Narrowed, numbersArray}
+use Rattle.finish.specs.Numbers.{PartsNarrow, Narrowable, Narrowed, numbersArray}
 
 -- the set fits a record
 pub record Packable (u : Unfinished) (k : Reduced) (e heads : List ℕ) (s g : List ℤ) : Type 0 where
   pub numbers : Narrowable k s g
+  pub radii : PartsNarrow (withFolded (widePartsOf (u .radii)) (k .folded))
   pub places-long : k .terms ≤ length heads
   pub rows : Places e heads
   pub factors-few : u .factors ≤ 12
@@ -47,9 +49,10 @@ module _ (u : Unfinished) (k : Reduced) (e heads : List ℕ) (s g : List ℤ) (v
   identifiers-kept =
       kept-front (occurs (terms e heads s (k .terms))) (λ i. getD (u .identifiers) i 0) (u .factors) 12 (v .factors-few) (v .factors-past)
 
-  pub packed : {count : ℕ} {ids exponents : List ℕ} {centre coefficients vectors : List ℤ} {radii : List ℕ}
+  pub packed : {count : ℕ} {ids exponents : List ℕ} {centre coefficients vectors : List ℤ} {radii : Radii}
       → WithoutUnused (terms e heads s (k .terms)) (u .identifiers) count ids exponents
-      → Narrowed k s g centre coefficients vectors radii
+      → Narrowed k s g centre coefficients vectors
+      → radii ≡ packedRadii (withFolded (widePartsOf (u .radii)) (k .folded))
       → _≡_ {A = PolyZonotope} (record {
         dimension = u .dimension;
         factors = count;
@@ -63,7 +66,7 @@ module _ (u : Unfinished) (k : Reduced) (e heads : List ℕ) (s g : List ℤ) (v
         radii = radii;
       }) (pack (dropUnused (heldBy u k e heads s g)))
   unfolding pack dropUnused terms
-  packed f n =
+  packed f n r =
       let ts : ℕ → Term = λ i. termOf e s (getD heads i 0) i in
       let p = occurs (terms e heads s (k .terms)) in
       let spelled = map-tab (keepExponents p) (k .terms) ts in
@@ -79,5 +82,5 @@ module _ (u : Unfinished) (k : Reduced) (e heads : List ℕ) (s g : List ℤ) (v
             ∙ coefficients-array s (k .terms) (λ j. keepExponents p (ts j)) (λ j. refl) 240
             ∙ ap (λ (l : List Term). tab 240 (λ x. at (getD l (x / 6) noTerm .coefficients) (x % 6))) (sym spelled)) i;
         vectors = n .vectors-are i;
-        radii = n .radii-are i;
+        radii = r i;
       }

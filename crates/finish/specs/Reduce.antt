@@ -67,20 +67,21 @@ module _ (l : ℕ) {n : ℕ} {c₀ c : List ℤ} {r₀ r : List ℕ} (v : Bounde
   pub centre-after : {b : ℕ} → Small b c₀ → Small (b + l * 2 ^ 50) c
   centre-after {b} h = small-mono (v .centre b h) (omega arith)
 
-  pub radii-after : {b : ℕ} → Under b r₀ → Under (b + l * 2 ^ 50) r
-  radii-after {b} h = under-mono (v .radii b h) (omega arith)
+  pub folded-after : {b : ℕ} → Under b r₀ → Under (b + l * 2 ^ 50) r
+  folded-after {b} h = under-mono (v .radii b h) (omega arith)
 
 -- ---- what the three folds leave
 module _ (u : Unfinished) (h₀ : List ℕ) (s₀ g₀ : List ℤ) {e h₁ h₂ : List ℕ} {s₁ s₂ g₁ : List ℤ} {n₀ n₁ n₂ m₀ m₁ : ℕ} {c₁ c₂ c₃ : List ℤ}
     {r₁ r₂ r₃ : List ℕ} (weights : List ℕ) (h q : ℕ)
-    (high : Passed e h₁ s₁ n₀ n₁ (u .centre) c₁ (u .radii) r₁ (withoutHigh (coreOf (u .centre) (u .radii)) (terms e h₀ s₀ n₀)))
+    (high : Passed e h₁ s₁ n₀ n₁ (u .centre) c₁ (u .radii .folded) r₁
+    (withoutHigh (coreOf (u .centre) (u .radii .folded)) (terms e h₀ s₀ n₀)))
     (few : Passed e h₂ s₂ n₁ n₂ c₁ c₂ r₁ r₂ (foldUntil (termSize weights) foldTerm h (coreOf c₁ r₁) (terms e h₁ s₁ n₁)))
     (kept : GeneratorsPassed g₁ m₀ m₁ c₂ c₃ r₂ r₃ (foldUntil (size weights) foldGenerator q (coreOf c₂ r₂) (tab m₀ (numberRow g₀)))) where
   pub rest-holds : n₀ ≤ 860 → n₂ ≤ 40 → m₀ ≤ 48 → m₁ ≤ 24 → m₀ * 6 ≤ length g₀ → length g₁ ≡ length g₀
-      → Small (2 ^ 40) (u .centre) → Under (2 ^ 40) (u .radii)
-      → Holds u (record { terms = n₂; generators = m₁; centre = c₃; radii = r₃ }) e h₂ s₂ g₁
+      → Small (2 ^ 40) (u .centre) → Under (2 ^ 40) (u .radii .folded)
+      → Holds u (record { terms = n₂; generators = m₁; centre = c₃; folded = r₃ }) e h₂ s₂ g₁
       (foldGenerators weights q (foldTerms weights h (foldHigh
-      (setOf u (coreOf (u .centre) (u .radii)) (terms e h₀ s₀ n₀) (tab m₀ (numberRow g₀))))))
+      (setOf u (coreOf (u .centre) (u .radii .folded)) (terms e h₀ s₀ n₀) (tab m₀ (numberRow g₀))))))
   rest-holds a b c d long same x y =
       let gs = tab m₀ (numberRow g₀) in
       let n₁-few = high .fewer in
@@ -90,7 +91,7 @@ module _ (u : Unfinished) (h₀ : List ℕ) (s₀ g₀ : List ℤ) {e h₁ h₂ 
             generators-stage u (coreOf c₂ r₂) (terms e h₂ s₂ n₂) gs weights q (kept .is)
             ∙ ap (foldGenerators weights q)
             (terms-stage u (coreOf c₁ r₁) (terms e h₁ s₁ n₁) gs weights h (few .is)
-            ∙ ap (foldTerms weights h) (high-stage u (coreOf (u .centre) (u .radii)) (terms e h₀ s₀ n₀) gs (high .is)));
+            ∙ ap (foldTerms weights h) (high-stage u (coreOf (u .centre) (u .radii .folded)) (terms e h₀ s₀ n₀) gs (high .is)));
         sized = record {
           terms-few = b;
           terms-long = few .ready .rows-long;
@@ -101,8 +102,8 @@ module _ (u : Unfinished) (h₀ : List ℕ) (s₀ g₀ : List ℤ) {e h₁ h₂ 
           centre-small = small-mono
               (centre-after 48 (kept .bounded) c (centre-after 860 (few .bounded) (omega arith) (centre-after 860 (high .bounded) a x)))
               (omega arith);
-          radii-small = under-mono
-              (radii-after 48 (kept .bounded) c (radii-after 860 (few .bounded) (omega arith) (radii-after 860 (high .bounded) a y)))
+          folded-small = under-mono
+              (folded-after 48 (kept .bounded) c (folded-after 860 (few .bounded) (omega arith) (folded-after 860 (high .bounded) a y)))
               (omega arith);
         };
         places-long = few .ready .places-long;

@@ -12,10 +12,12 @@ use lib.IntN.{ℤ, pos, natAbs}
 use Rattle.whole.specs.Sum.{monoidℕ, sumBy, sumℕ, sum-++, uptoBy, uptoℕ, upto-cong}
 use Rattle.whole.specs.Tab.{tab, getD-tab, tab-more}
 use Rattle.model.specs.Limits.{maxSpan}
-use Rattle.model.specs.Set.{at, termSizes, generatorSizes, span}
+use Rattle.model.specs.Set.{at, radiusOf, termSizes, generatorSizes, span, withFolded}
 use Rattle.model.specs.Valid.{tooWide}
 use Rattle.rows.specs.Rows.{numberRow, termOf, terms}
 use Rattle.whole.specs.Tests.{any-found, any-none}
+use Rattle.zonotope.specs.declared.WideRadii.{WideRadii}
+use Rattle.zonotope.specs.Record.{widePartsOf}
 use Rattle.finish.specs.declared.Unfinished.{Unfinished}
 use Rattle.finish.specs.declared.Reduced.{Reduced}
 use Rattle.finish.specs.Held.{heldBy, RowsLong}
@@ -25,8 +27,10 @@ abbrev pub columnSize : List ℤ → ℕ → ℕ → ℕ
 columnSize s n i = uptoℕ (λ t. natAbs (getD s (t * 6 + i) (pos 0))) n
 
 -- the span of coordinate i
-abbrev pub heldSpan : Reduced → List ℤ → List ℤ → ℕ → ℕ
-heldSpan k s g i = natAbs (at (k .centre) i) + columnSize s (k .terms) i + columnSize g (k .generators) i + getD (k .radii) i 0
+abbrev pub heldSpan : WideRadii → Reduced → List ℤ → List ℤ → ℕ → ℕ
+heldSpan r k s g i =
+    natAbs (at (k .centre) i) + columnSize s (k .terms) i + columnSize g (k .generators) i + radiusOf (withFolded (widePartsOf r)
+    (k .folded)) i
 
 -- a sum over a table is one over its places
 sum-tab : {A : Type 0} (f : A → ℕ) (n : ℕ) (t : ℕ → A) → sumℕ f (tab n t) ≡ uptoℕ (λ k. f (t k)) n
@@ -45,31 +49,31 @@ column-sum row n t s h i l =
     ∙ upto-cong 0 _+_ _ _ n (λ k b. ap natAbs (ap (λ v. at v i) (h k) ∙ getD-tab 6 (λ j. getD s (k * 6 + j) (pos 0)) (pos 0) i l))
 
 module _ (u : Unfinished) (k : Reduced) (e heads : List ℕ) (s g : List ℤ) where
-  pub span-held : (i : ℕ) → i < 6 → span (heldBy u k e heads s g) i ≡ heldSpan k s g i
+  pub span-held : (i : ℕ) → i < 6 → span (heldBy u k e heads s g) i ≡ heldSpan (u .radii) k s g i
   unfolding span termSizes generatorSizes terms
   span-held i h =
-      ap₂ (λ a b. natAbs (at (k .centre) i) + a + b + getD (k .radii) i 0)
+      ap₂ (λ a b. natAbs (at (k .centre) i) + a + b + radiusOf (withFolded (widePartsOf (u .radii)) (k .folded)) i)
       (column-sum (λ t. t .coefficients) (k .terms) (λ t. termOf e s (getD heads t 0) t) s (λ t. refl) i h)
       (column-sum (λ v. v) (k .generators) (numberRow g) g (λ t. refl) i h)
 
   -- ---- as a loop with early return finds it
   module _ (few : u .dimension ≤ 6) where
-    pub too-wide : (i : ℕ) → i < u .dimension → maxSpan < heldSpan k s g i → tooWide (heldBy u k e heads s g) ≡ true
+    pub too-wide : (i : ℕ) → i < u .dimension → maxSpan < heldSpan (u .radii) k s g i → tooWide (heldBy u k e heads s g) ≡ true
     unfolding tooWide
     too-wide i l h =
         any-found (λ j. ltb maxSpan (span (heldBy u k e heads s g) j)) (u .dimension) (λ j. j) i l
         (ap (ltb maxSpan) (span-held i (omega arith)) ∙ lt-ltb maxSpan _ h)
 
-    pub not-too-wide : ((i : ℕ) → i < u .dimension → heldSpan k s g i ≤ maxSpan) → tooWide (heldBy u k e heads s g) ≡ false
+    pub not-too-wide : ((i : ℕ) → i < u .dimension → heldSpan (u .radii) k s g i ≤ maxSpan) → tooWide (heldBy u k e heads s g) ≡ false
     unfolding tooWide
     not-too-wide h =
         any-none (λ j. ltb maxSpan (span (heldBy u k e heads s g) j)) (u .dimension) (λ j. j)
         (λ i l. ap (ltb maxSpan) (span-held i (omega arith)) ∙ le-ltb maxSpan _ (h i l))
 
 -- ---- a coordinate's parts fit 64 bits together
-pub span-fits : {k : Reduced} {s g : List ℤ} → RowsLong k s g → (i a b : ℕ) → a ≤ k .terms * 2 ^ 50 → b ≤ k .generators * 2 ^ 50
-    → natAbs (at (k .centre) i) + a + b + getD (k .radii) i 0 < 2 ^ 63
-span-fits v i a b p q =
+pub span-fits : {k : Reduced} {s g : List ℤ} → RowsLong k s g → (i a b c : ℕ) → a ≤ k .terms * 2 ^ 50 → b ≤ k .generators * 2 ^ 50
+    → c ≤ 2 ^ 61 + 3 * 2 ^ 40 → natAbs (at (k .centre) i) + a + b + c < 2 ^ 63
+span-fits v i a b c p q r =
     let few = v .terms-few in
     let fewer = v .generators-few in
-    omega (arith, v .centre-small .small i, v .radii-small .under i)
+    omega (arith, v .centre-small .small i)

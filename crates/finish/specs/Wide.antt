@@ -4,19 +4,23 @@ use Prim.Native.Nat.{ℕ}
 use lib.ListN.{getD}
 use lib.IntN.{ℤ, pos}
 use Rattle.whole.specs.Tab.{tab}
-use Rattle.model.specs.Set.{Term, Zonotope}
+use Rattle.model.specs.Set.{Term, Radii, Zonotope}
 use Rattle.model.specs.Finish.{Core, Folded}
+use Rattle.zonotope.specs.Record.{firstParts}
 
 -- the first n elements, continued by d where there are fewer
 abbrev pub padded : {A : Type 0} → ℕ → A → List A → List A
 padded n d l = tab n (λ i. getD l i d)
 
--- a vector of 6 numbers, and the radii of 6 coordinates
+-- a vector of 6 numbers, a part of radii, and radii of 6 coordinates
 abbrev pub wideVector : List ℤ → List ℤ
 wideVector v = padded 6 (pos 0) v
 
-abbrev pub wideRadii : List ℕ → List ℕ
-wideRadii r = padded 6 0 r
+abbrev pub widePart : List ℕ → List ℕ
+widePart r = padded 6 0 r
+
+abbrev pub wideRadii : Radii → Radii
+wideRadii r = firstParts 6 r
 
 -- a term of 12 exponents and 6 coefficients
 abbrev pub wideTerm : Term → Term
@@ -28,7 +32,7 @@ wideCoefficients t = record { exponents = t .exponents; coefficients = wideVecto
 
 -- a centre and radii of 6 coordinates, also with what is left of a list, each element changed
 abbrev pub wideCore : Core → Core
-wideCore k = record { centre = wideVector (k .centre); radii = wideRadii (k .radii) }
+wideCore k = record { centre = wideVector (k .centre); radii = widePart (k .radii) }
 
 abbrev pub wideFolded : {A B : Type 0} → (A → B) → Folded A → Folded B
 wideFolded widen f = record { core = wideCore (f .core); kept = map widen (f .kept) }

@@ -12,11 +12,11 @@ use Rattle.whole.specs.Sum.{sumℕ, sum-map}
 use Rattle.whole.specs.Tests.{any-cong}
 use Rattle.whole.specs.Tab.{tab, getD-tab, tab-cong}
 use Rattle.model.specs.Limits.{maxSpan}
-use Rattle.model.specs.Set.{Zonotope, at, termSizes, generatorSizes, span}
+use Rattle.model.specs.Set.{Radii, Zonotope, at, radiusOf, termSizes, generatorSizes, span}
 use Rattle.model.specs.Valid.{tooWide}
 use Rattle.model.specs.Finish.{collectTerms, dropZeroTerms, dropZeroGenerators, foldHigh, foldTerms, foldGenerators, dropUnused, finish}
 use Rattle.zonotope.specs.Record.{noTerm, pack}
-use Rattle.finish.specs.Wide.{wideVector, wideCoefficients, wide, wideNumbers}
+use Rattle.finish.specs.Wide.{wideVector, widePart, wideRadii, wideCoefficients, wide, wideNumbers}
 use Rattle.finish.specs.WideFinish.{Narrow, finish-wide}
 
 -- the first 6 numbers of a vector are its own
@@ -30,6 +30,13 @@ read-mapped : {A B : Type 0} (widen : A → A) (read : A → B) (d : A) → ((a 
 read-mapped widen read d h [] i = refl
 read-mapped widen read d h (a ∷ l) zero = h a
 read-mapped widen read d h (a ∷ l) (suc i) = read-mapped widen read d h l i
+
+-- the first 6 numbers of a part are its own
+part-at : (l : List ℕ) (i : ℕ) → i < 6 → getD (widePart l) i 0 ≡ getD l i 0
+part-at l i h = getD-tab 6 (λ j. getD l j 0) 0 i h
+
+part-wide : (l : List ℕ) → widePart (widePart l) ≡ widePart l
+part-wide l = tab-cong 6 _ _ (part-at l)
 
 -- A set with wide numbers has the same record.
 pub pack-wide : (m : Zonotope) → pack (wideNumbers m) ≡ pack m
@@ -48,12 +55,22 @@ pack-wide m = λ i. record {
       (λ t. vector-at (t .coefficients) (x % 6) (mod-lt x (lit< tt))) (m .terms) (x / 6)) i;
   vectors = tab-cong 144 _ _ (λ x h.
       read-mapped wideVector (λ g. at g (x % 6)) [] (λ g. vector-at g (x % 6) (mod-lt x (lit< tt))) (m .generators) (x / 6)) i;
-  radii = tab-cong 6 _ _ (getD-tab 6 (λ j. getD (m .radii) j 0) 0) i;
+  radii = record {
+    carried = part-wide (m .radii .carried) i;
+    rounded = part-wide (m .radii .rounded) i;
+    folded = part-wide (m .radii .folded) i;
+    given = part-wide (m .radii .given) i;
+  };
 }
 
 -- ---- spans
 sum-mapped : {A : Type 0} (widen : A → A) (f : A → ℕ) → ((a : A) → f (widen a) ≡ f a) → (l : List A) → sumℕ f (map widen l) ≡ sumℕ f l
 sum-mapped widen f h l = sum-map 0 _+_ f widen l ∙ ap (λ (g : _). sumℕ g l) (fun-ext h)
+
+radius-wide : (r : Radii) (i : ℕ) → i < 6 → radiusOf (wideRadii r) i ≡ radiusOf r i
+unfolding radiusOf
+radius-wide r i h =
+    ap₂ _+_ (ap₂ _+_ (ap₂ _+_ (part-at (r .carried) i h) (part-at (r .rounded) i h)) (part-at (r .folded) i h)) (part-at (r .given) i h)
 
 -- A coordinate's span is the same.
 pub span-wide : (m : Zonotope) (i : ℕ) → i < 6 → span (wideNumbers m) i ≡ span m i
@@ -62,7 +79,7 @@ span-wide m i h =
     ap₂ _+_ (ap₂ _+_ (ap₂ _+_ (ap natAbs (vector-at (m .centre) i h))
     (sum-mapped wideCoefficients _ (λ t. ap natAbs (vector-at (t .coefficients) i h)) (m .terms)))
     (sum-mapped wideVector _ (λ g. ap natAbs (vector-at g i h)) (m .generators)))
-    (getD-tab 6 (λ j. getD (m .radii) j 0) 0 i h)
+    (radius-wide (m .radii) i h)
 
 pub tooWide-wide : (m : Zonotope) → m .dimension ≤ 6 → tooWide (wideNumbers m) ≡ tooWide m
 unfolding tooWide wideNumbers

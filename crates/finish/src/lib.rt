@@ -21,15 +21,15 @@ pub struct Unfinished {
     pub factors: usize,
     pub identifiers: [u32; 12],
     pub centre: [i64; 6],
-    pub radii: [u64; 6],
+    pub radii: zonotope::WideRadii,
 }
 
-// How many terms and generators are left, with the centre and radii that make up for the others.
+// How many terms and generators are left, with the centre and the folded parts of the radii that make up for the others.
 pub struct Reduced {
     pub terms: usize,
     pub generators: usize,
     pub centre: [i64; 6],
-    pub radii: [u64; 6],
+    pub folded: [u64; 6],
 }
 
 // The record of a finished result, or that its span is too wide, with the record of no set.
@@ -149,14 +149,14 @@ fn fold_rest(
     requires { ⌜ Ready (now e) (now heads) (now s) n × Foldable u (now g) m «term_limit» «generator_limit» weights ⌝ }
     ensures { λ r. ⌜ Holds u r (now (e .entry)) (now (heads .exit)) (now (s .exit)) (now (g .exit))
         (foldGenerators weights «generator_limit» (foldTerms weights «term_limit» (foldHigh
-        (setOf u (coreOf (u .centre) (u .radii)) (terms (now (e .entry)) (now (heads .entry)) (now (s .entry)) n)
+        (setOf u (coreOf (u .centre) (u .radii .folded)) (terms (now (e .entry)) (now (heads .entry)) (now (s .entry)) n)
         (tab m (numberRow (now (g .entry)))))))) ⌝ }
 {
     let centre = u.centre;
-    let radii = u.radii;
-    let low = select::fold_high(e, heads, s, n, centre, radii);
+    let folded = u.radii.folded;
+    let low = select::fold_high(e, heads, s, n, centre, folded);
     let low_centre = low.centre;
-    let low_radii = low.radii;
+    let low_folded = low.radii;
     let few = select::fold_terms(
         e,
         heads,
@@ -165,17 +165,17 @@ fn fold_rest(
         term_limit,
         weights,
         low_centre,
-        low_radii,
+        low_folded,
     );
     let few_centre = few.centre;
-    let few_radii = few.radii;
-    let kept = select::fold_generators(g, m, generator_limit, weights, few_centre, few_radii);
+    let few_folded = few.radii;
+    let kept = select::fold_generators(g, m, generator_limit, weights, few_centre, few_folded);
     let kept_centre = kept.centre;
-    let kept_radii = kept.radii;
+    let kept_folded = kept.radii;
     Reduced {
         terms: few.count,
         generators: kept.count,
         centre: kept_centre,
-        radii: kept_radii,
+        folded: kept_folded,
     }
 }

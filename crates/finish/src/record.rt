@@ -3,14 +3,16 @@ ghost use mathlib.Core.Path.{_≡_};
 ghost use Prim.Native.Nat.{ℕ, _*_, _≤_, _<_};
 ghost use lib.ListN.{length, getD};
 ghost use lib.IntN.{pos, natAbs};
-ghost use Rattle.whole.specs.Tab.{tab};
 ghost use Rattle.whole.specs.Write.{write};
 ghost use Rattle.model.specs.Limits.{maxSpan};
 ghost use Rattle.model.specs.Finish.{dropUnused};
-ghost use Rattle.zonotope.specs.Record.{pack};
+ghost use Rattle.model.specs.Set.{withFolded};
+ghost use Rattle.zonotope.specs.Record.{widePartsOf, firsts, packedRadii, pack};
 ghost use Rattle.finish.specs.Held.{heldBy};
-ghost use Rattle.finish.specs.Numbers.{WithinSpan, Narrowable, Narrowed};
+ghost use Rattle.finish.specs.Numbers.{WithinSpan, PartsNarrow, Narrowable, Narrowed};
 ghost use Rattle.finish.specs.Packing.{Packable};
+use zonotope::Radii;
+use zonotope::WideRadii;
 
 // The record of the set without the factors that occur in no term.
 pub fn pack(
@@ -32,7 +34,9 @@ pub fn pack(
     let centre = numbers.centre;
     let coefficients = numbers.coefficients;
     let vectors = numbers.vectors;
-    let radii = numbers.radii;
+    let parts = u.radii;
+    let folded = k.folded;
+    let radii = narrow_radii(parts, folded);
     zonotope::PolyZonotope {
         dimension: u.dimension,
         factors: f.count,
@@ -47,18 +51,17 @@ pub fn pack(
     }
 }
 
-// The numbers of a record.
+// The numbers of a record but for its radii.
 struct Numbers {
     centre: [i32; 6],
     coefficients: [i32; 240],
     vectors: [i32; 144],
-    radii: [u32; 6],
 }
 
 // The numbers of the set at 32 bits; the places after the terms and generators are 0.
 fn narrow_all(k: super::Reduced, s: &[i64], g: &[i64]) -> Numbers
     requires { ⌜ Narrowable k (now s) (now g) ⌝ }
-    ensures { λ r. ⌜ Narrowed k (now (s .entry)) (now (g .entry)) (r .centre) (r .coefficients) (r .vectors) (r .radii) ⌝ }
+    ensures { λ r. ⌜ Narrowed k (now (s .entry)) (now (g .entry)) (r .centre) (r .coefficients) (r .vectors) ⌝ }
 {
     let wide = k.centre;
     let mut centre = [0i32; 6];
@@ -67,13 +70,10 @@ fn narrow_all(k: super::Reduced, s: &[i64], g: &[i64]) -> Numbers
     narrow_numbers(&mut coefficients, s, k.terms * 6);
     let mut vectors = [0i32; 144];
     narrow_numbers(&mut vectors, g, k.generators * 6);
-    let large = k.radii;
-    let radii = narrow_radii(large);
     Numbers {
         centre,
         coefficients,
         vectors,
-        radii,
     }
 }
 
@@ -96,14 +96,34 @@ fn narrow(x: i64) -> i32
     x as i32
 }
 
-// The radii at 32 bits.
-fn narrow_radii(radii: [u64; 6]) -> [u32; 6]
-    requires { ⌜ ((i : ℕ) → i < 6 → getD radii i 0 ≤ maxSpan) ⌝ }
-    ensures { λ r. ⌜ r ≡ tab 6 (λ i. getD radii i 0) ⌝ }
+// The radii with these folded parts, at 32 bits.
+fn narrow_radii(r: WideRadii, folded: [u64; 6]) -> Radii
+    requires { ⌜ PartsNarrow (withFolded (widePartsOf r) folded) ⌝ }
+    ensures { λ t. ⌜ t ≡ packedRadii (withFolded (widePartsOf r) folded) ⌝ }
+{
+    let wide_carried = r.carried;
+    let wide_rounded = r.rounded;
+    let wide_given = r.given;
+    let carried = narrow_part(wide_carried);
+    let rounded = narrow_part(wide_rounded);
+    let few = narrow_part(folded);
+    let given = narrow_part(wide_given);
+    Radii {
+        carried,
+        rounded,
+        folded: few,
+        given,
+    }
+}
+
+// A part at 32 bits.
+fn narrow_part(part: [u64; 6]) -> [u32; 6]
+    requires { ⌜ ((i : ℕ) → i < 6 → getD part i 0 ≤ maxSpan) ⌝ }
+    ensures { λ r. ⌜ r ≡ firsts 6 part ⌝ }
 {
     let mut out = [0u32; 6];
     for i in 0..6 {
-        out[i] = radii[i] as u32;
+        out[i] = part[i] as u32;
     }
     out
 }

@@ -1,4 +1,4 @@
--- A disturbance of a record: the record of the disturbed set is the record with other radii.
+-- A disturbance of a record: the record of the disturbed set is the record with other given parts of its radii.
 use mathlib.Core.Path.{_≡_, sym, ap, ap₂, _∙_}
 use mathlib.Core.List.{List}
 use mathlib.Core.Bool.{false}
@@ -13,10 +13,12 @@ use lib.Seq.{ext-getD}
 use Rattle.whole.specs.Tab.{tab, any, length-tab, getD-tab, tab-cong}
 use Rattle.whole.specs.Write.{write, write-length, write-at, write-after}
 use Rattle.model.specs.Limits.{maxDisturbance}
+use Rattle.model.specs.Set.{radiusOf}
 use Rattle.model.specs.Valid.{badCounts, tooWide}
 use Rattle.model.specs.Operations.{disturb}
 use Rattle.model.proofs.Vectors.{plusℕ-at, longer-length}
 use Rattle.model.proofs.Shape as Shape
+use Rattle.zonotope.specs.declared.Radii.{Radii}
 use Rattle.zonotope.specs.declared.PolyZonotope.{PolyZonotope}
 use Rattle.zonotope.specs.Record.{view, pack}
 use Rattle.zonotope.specs.Counts.{InLimits, countable}
@@ -50,8 +52,11 @@ added own radii e few =
         let z : getD radii i 0 ≡ 0 = List·getD-eq-default radii 0 (omega arith) in
         write-after own 0 f 0 (length radii) i (omega arith) ∙ omega arith
 
--- the record with other radii
-abbrev pub withRadii : PolyZonotope → List ℕ → PolyZonotope
+-- radii with other given parts, and the record with other radii
+abbrev pub withGiven : Radii → List ℕ → Radii
+withGiven r g = record { carried = r .carried; rounded = r .rounded; folded = r .folded; given = g }
+
+abbrev pub withRadii : PolyZonotope → Radii → PolyZonotope
 withRadii s radii = record {
   dimension = s .dimension;
   factors = s .factors;
@@ -79,16 +84,19 @@ module _ (s : PolyZonotope) (radii : List ℕ) (h : Disturbable s radii) where
     go (no l) = omega (arith, List·getD-eq-default radii 0 {n = i} (omega arith))
 
   -- what adding the radii asks
-  pub addable : (length radii ≤ 6) × ((i : ℕ) → i < 6 → getD (s .radii) i 0 + getD radii i 0 < 4294967296)
+  pub addable : (length radii ≤ 6) × ((i : ℕ) → i < 6 → getD (s .radii .given) i 0 + getD radii i 0 < 4294967296)
+  unfolding radiusOf
   addable =
-      (few-radii, λ i l. omega (arith, radius-small i, radii-wide s (for-sum s (h .set)) i l, radii-small s (for-sum s (h .set)) i))
+      let x = for-sum s (h .set) in (few-radii, λ i l. omega (arith, radius-small i, radii-wide s x .given i l, radii-small s x i))
 
   -- The record with the radii added is the record of the disturbed set.
-  pub disturbed-record : withRadii s (tab 6 (λ i. getD (s .radii) i 0 + getD radii i 0)) ≡ pack (disturb radii (view s))
+  pub disturbed-record : withRadii s (withGiven (s .radii) (tab 6 (λ i. getD (s .radii .given) i 0 + getD radii i 0)))
+      ≡ pack (disturb radii (view s))
   unfolding pack disturb
   disturbed-record =
-      ap₂ withRadii (sym (own-record s (h .set))) (tab-cong 6 _ _ (λ i l.
-      ap (_+ getD radii i 0) (radii-wide s (for-sum s (h .set)) i l) ∙ sym (plusℕ-at (view s .radii) radii i)))
+      let own = sym (own-record s (h .set)) in
+      ap₂ withRadii own (λ k. withGiven (own k .radii) (tab-cong 6 _ _ (λ i l.
+      ap (_+ getD radii i 0) (radii-wide s (for-sum s (h .set)) .given i l) ∙ sym (plusℕ-at (view s .radii .given) radii i)) k))
 
   disturbed-counts : badCounts (disturb radii (view s)) ≡ false
   unfolding disturb badCounts
@@ -98,7 +106,12 @@ module _ (s : PolyZonotope) (radii : List ℕ) (h : Disturbable s radii) where
   unfolding disturb view
   disturbed-shape = record {
     centre-long = view-shaped s .centre-long;
-    radii-long = longer-length _+_ _ radii (view-shaped s .radii-long ∙ sym (h .long)) ∙ view-shaped s .radii-long;
+    radii-long = let l = view-shaped s .radii-long in record {
+      carried-long = l .carried-long;
+      rounded-long = l .rounded-long;
+      folded-long = l .folded-long;
+      given-long = longer-length _+_ _ radii (l .given-long ∙ sym (h .long)) ∙ l .given-long;
+    };
     rows = view-shaped s .rows;
     generators-long = view-shaped s .generators-long;
   }

@@ -30,9 +30,9 @@ use Rattle.finish.specs.Held.{held, finishedAs}
 use Rattle.finish.specs.Wide.{wide}
 use Rattle.finish.specs.WideFinish.{Narrow}
 use Rattle.answers.specs.Accepted.{AcceptedRecord, ready}
-use Rattle.answers.specs.Finishing.{Finishable, finished-held, zeros-small}
+use Rattle.answers.specs.Finishing.{parts-under, Finishable, finished-held, zeros-small}
 use Rattle.summing.specs.Summable.{Summable}
-use Rattle.summing.specs.Wide.{small-in, small-mono, under-in}
+use Rattle.summing.specs.Wide.{small-in, small-mono}
 
 -- the sum without its terms and generators, in n coordinates
 abbrev pub unfinishedSum : ℕ → Identifiers → Sum → Unfinished
@@ -94,7 +94,7 @@ module _ (m : Zonotope) (all : Identifiers) (s : Sum) {e₀ e : List ℕ} {c₀ 
           centre-small = rw (j .centre) (record {
             small = small-in (pos 0) (λ z. z) 6 (at (m .centre)) refl (λ i l. omega (arith, j .centre-small i));
           });
-          radii-small = rw (j .radii) (under-in 6 (λ i. getD (m .radii) i 0) (λ i l. omega (arith, j .radii-small i)));
+          radii-small = parts-under (s .radii) (m .radii) (j .radii) (λ i. omega (arith, j .radii-small i));
           widened = record { source = m; is = sum-wide; narrow = sum-narrow };
         }
 

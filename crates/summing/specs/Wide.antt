@@ -11,21 +11,35 @@ use Rattle.model.specs.Limits.{maxSpan, standardWeights}
 use Rattle.model.specs.Set.{Zonotope, at}
 use Rattle.model.specs.Finish.{finish}
 use Rattle.model.specs.Operations.{reduce}
+use Rattle.zonotope.specs.declared.Radii.{Radii}
+use Rattle.zonotope.specs.declared.WideRadii.{WideRadii}
 use Rattle.zonotope.specs.declared.PolyZonotope.{PolyZonotope}
-use Rattle.zonotope.specs.Record.{noTerm, view, pack}
+use Rattle.zonotope.specs.Record.{firsts, noTerm, view, pack}
+use Rattle.zonotope.specs.Shape.{PartLengths}
 use Rattle.zonotope.specs.Counts.{Countable, countable}
 use Rattle.rows.specs.Rows.{termOf, rowsOf, Small}
-use Rattle.fold.specs.Folding.{Under}
 use Rattle.align.specs.Examined.{counts, terms-held, generators-held, centre-small, radii-small}
 use Rattle.finish.specs.declared.Unfinished.{Unfinished}
 use Rattle.finish.specs.declared.Finished.{Finished}
-use Rattle.finish.specs.Held.{held, finishedAs}
-use Rattle.finish.specs.Wide.{wideVector, wideTerm, wide}
+use Rattle.finish.specs.Held.{PartsUnder, held, finishedAs}
+use Rattle.finish.specs.Wide.{wideVector, wideRadii, wideTerm, wide}
 use Rattle.finish.specs.WideFinish.{Narrow}
 use Rattle.answers.specs.Accepted.{AcceptedRecord, own-record}
 use Rattle.zonotope.proofs.ViewPack.{view-shaped}
 use Rattle.summing.specs.Summand.{for-sum}
-use Rattle.answers.specs.Finishing.{Finishable, finished-held}
+use Rattle.answers.specs.Finishing.{parts-under, Finishable, finished-held}
+
+-- radii at 64 bits, and the first six numbers of each part
+abbrev pub wideRadiiOf : Radii → WideRadii
+wideRadiiOf r = record { carried = r .carried; rounded = r .rounded; folded = r .folded; given = r .given }
+
+abbrev pub wideFirsts : Radii → WideRadii
+wideFirsts r = record {
+  carried = firsts 6 (r .carried);
+  rounded = firsts 6 (r .rounded);
+  folded = firsts 6 (r .folded);
+  given = firsts 6 (r .given);
+}
 
 -- the set without its terms and generators
 abbrev pub unfinishedOf : PolyZonotope → Unfinished
@@ -34,7 +48,7 @@ unfinishedOf s = record {
   factors = s .factors;
   identifiers = s .identifiers;
   centre = s .centre;
-  radii = s .radii;
+  radii = wideRadiiOf (s .radii);
 }
 
 -- what a record holds in its rows
@@ -57,7 +71,7 @@ record-wide m l = λ k. record {
       tab-row (pos 0) 6 144 t (λ q i. at (getD (m .generators) q []) i) (omega (arith, l .generators)))
       ∙ sym (map-tab wideVector (length (m .generators)) (λ t. getD (m .generators) t []))
       ∙ ap (map wideVector) (tab-getD (length (m .generators)) (m .generators) [] refl)) k;
-  radii = tab 6 (λ i. getD (m .radii) i 0);
+  radii = wideRadii (m .radii);
 }
   where
     term-wide : (t : ℕ) → t < length (m .terms) → termOf (tab 480 (λ x. getD (getD (m .terms) (x / 12) noTerm .exponents) (x % 12) 0))
@@ -82,12 +96,6 @@ rows-small n G h = record { small = small-in (pos 0) (λ z. z) n (λ x. at (G (x
 
 pub small-mono : {a b : ℕ} {c : List ℤ} → a ≤ b → Small a c → Small b c
 small-mono l s = record { small = λ i. omega (arith, s .small i) }
-
-pub under-in : {b : ℕ} (n : ℕ) (f : ℕ → ℕ) → ((i : ℕ) → i < n → f i ≤ b) → Under b (tab n f)
-under-in {b} n f h = record { under = λ i. go i (decLt i n) } where
-  go : (i : ℕ) → Dec (i < n) → getD (tab n f) i 0 ≤ b
-  go i (yes l) = rw (getD-tab n f 0 i l) (h i l)
-  go i (no l) = rw (getD-tab-past n f 0 i (omega arith)) (omega arith)
 
 module _ (s : PolyZonotope) (a : AcceptedRecord s) where
   pub narrow : Narrow (view s)
@@ -119,10 +127,10 @@ module _ (s : PolyZonotope) (a : AcceptedRecord s) where
     small = small-in (pos 0) (λ z. z) 6 (at (view s .centre)) refl (λ i l. centre-small s (for-sum s a) i);
   })
 
-  finite-radii : Under (2 ^ 40) (s .radii)
+  finite-radii : PartsUnder (2 ^ 40) (wideRadiiOf (s .radii))
   unfolding pack
-  finite-radii = subst (λ (q : PolyZonotope). Under (2 ^ 40) (q .radii)) (own-record s a)
-      (under-in 6 (λ i. getD (view s .radii) i 0) (λ i l. omega (arith, radii-small s (for-sum s a) i)))
+  finite-radii = subst (λ (q : PolyZonotope). PartsUnder (2 ^ 40) (wideRadiiOf (q .radii))) (own-record s a)
+      (parts-under (wideRadiiOf (pack (view s) .radii)) (view s .radii) refl (λ i. omega (arith, radii-small s (for-sum s a) i)))
 
   -- what finishing the record's rows asks
   pub finishable : Finishable (unfinishedOf s) (s .exponents) (s .coefficients) (s .terms) (s .vectors) (s .generators)
@@ -155,8 +163,8 @@ module _ (s : PolyZonotope) (a : AcceptedRecord s) where
     finished-parts h k e = finished-held standardWeights h k (view s) narrow held-wide (rw (p, q, r) at e)
 
 -- the parts of the set without its terms and generators
-pub unfinished-parts : (s : PolyZonotope) {c : List ℤ} {r : List ℕ} → c ≡ s .centre → r ≡ tab 6 (λ i. getD (s .radii) i 0) →
-    length (s .radii) ≡ 6
+pub unfinished-parts : (s : PolyZonotope) {c : List ℤ} {r : WideRadii} → c ≡ s .centre → r ≡ wideFirsts (s .radii) →
+    PartLengths (s .radii)
     → _≡_ {A = Unfinished} (record {
       dimension = s .dimension;
       factors = s .factors;
@@ -164,4 +172,12 @@ pub unfinished-parts : (s : PolyZonotope) {c : List ℤ} {r : List ℕ} → c �
       centre = c;
       radii = r;
     }) (unfinishedOf s)
-unfinished-parts s p q l = rw (p, q, tab-getD 6 (s .radii) 0 l)
+unfinished-parts s p q l =
+    rw (
+      p,
+      q,
+      tab-getD 6 (s .radii .carried) 0 (l .carried),
+      tab-getD 6 (s .radii .rounded) 0 (l .rounded),
+      tab-getD 6 (s .radii .folded) 0 (l .folded),
+      tab-getD 6 (s .radii .given) 0 (l .given),
+    )

@@ -1,4 +1,4 @@
-// A disturbance of an examined set: radii are added to its own.
+// A disturbance of an examined set: radii are added to the given parts of its own.
 ghost use mathlib.Core.Path.{_≡_};
 ghost use Prim.Native.Nat.{ℕ, _+_, _<_, _≤_};
 ghost use lib.ListN.{length, getD};
@@ -19,6 +19,8 @@ pub fn disturbed(s: PolyZonotope, radii: &[u32]) -> Changed
     ensures { λ r. ⌜ r ≡ answered (ofResult (disturb (now (radii .entry)) (view s))) s (disturb (now (radii .entry)) (view s)) ⌝ }
 {
     let t = with_radii(s, radii);
+    let parts = t.radii;
+    let totals = zonotope::parts::totals(parts);
     let n = t.dimension;
     let h = t.terms;
     let q = t.generators;
@@ -26,7 +28,7 @@ pub fn disturbed(s: PolyZonotope, radii: &[u32]) -> Changed
         &t.centre,
         &t.coefficients,
         &t.vectors,
-        &t.radii,
+        &totals,
         n,
         h,
         q,
@@ -49,9 +51,12 @@ fn with_radii(s: PolyZonotope, radii: &[u32]) -> PolyZonotope
     ensures { λ r. ⌜ r ≡ pack (disturb (now (radii .entry)) (view s)) ⌝ }
 {
     let own = s.radii;
-    let sums = add_radii(own, radii);
+    let given = own.given;
+    let sums = add_radii(given, radii);
+    let mut parts = own;
+    parts.given = sums;
     let mut t = s;
-    t.radii = sums;
+    t.radii = parts;
     t
 }
 

@@ -1,20 +1,21 @@
 // A reduction of an examined set: its rows at 64 bits, finished with other limits.
 ghost use mathlib.Core.Path.{_≡_};
 ghost use Prim.Native.Nat.{_≤_};
-ghost use lib.ListN.{length, getD};
-ghost use Rattle.whole.specs.Tab.{tab};
+ghost use lib.ListN.{length};
 ghost use Rattle.model.specs.Limits.{standardWeights};
 ghost use Rattle.model.specs.Operations.{reduce};
-ghost use Rattle.zonotope.specs.Record.{view};
+ghost use Rattle.zonotope.specs.Record.{firsts, view};
 ghost use Rattle.zonotope.specs.Shape.{Sized};
 ghost use Rattle.finish.specs.Held.{finishedAs};
 ghost use Rattle.answers.specs.Answer.{answered, ofResult};
 ghost use Rattle.answers.specs.Accepted.{AcceptedRecord};
-ghost use Rattle.summing.specs.Wide.{unfinishedOf};
+ghost use Rattle.summing.specs.Wide.{wideFirsts, unfinishedOf};
 use answers::Changed;
 use finish::Finished;
 use finish::Unfinished;
 use zonotope::PolyZonotope;
+use zonotope::Radii;
+use zonotope::WideRadii;
 
 // The answer for an examined set and limits of a set: 10 where the result is too wide.
 pub fn reduced(s: PolyZonotope, term_limit: usize, generator_limit: usize) -> Changed
@@ -57,7 +58,8 @@ fn unfinished(s: PolyZonotope) -> Unfinished
     let identifiers = s.identifiers;
     let mut centre = [0i64; 6];
     widen_numbers(&s.centre, &mut centre);
-    let radii = widen_radii(&s.radii);
+    let own = s.radii;
+    let radii = widen_radii(own);
     Unfinished {
         dimension: s.dimension,
         factors: s.factors,
@@ -79,12 +81,28 @@ fn widen_numbers(numbers: &[i32], out: &mut [i64])
 }
 
 // The radii at 64 bits.
-fn widen_radii(radii: &[u32; 6]) -> [u64; 6]
-    ensures { λ r. ⌜ r ≡ tab 6 (λ i. getD (now (radii .entry)) i 0) ⌝ }
+fn widen_radii(r: Radii) -> WideRadii
+    ensures { λ t. ⌜ t ≡ wideFirsts r ⌝ }
+{
+    let carried = widen_part(&r.carried);
+    let rounded = widen_part(&r.rounded);
+    let folded = widen_part(&r.folded);
+    let given = widen_part(&r.given);
+    WideRadii {
+        carried,
+        rounded,
+        folded,
+        given,
+    }
+}
+
+// A part at 64 bits.
+fn widen_part(part: &[u32; 6]) -> [u64; 6]
+    ensures { λ r. ⌜ r ≡ firsts 6 (now (part .entry)) ⌝ }
 {
     let mut out = [0u64; 6];
     for i in 0..6 {
-        let x = radii[i];
+        let x = part[i];
         out[i] = whole::widen_u32(x);
     }
     out

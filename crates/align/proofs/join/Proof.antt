@@ -1,6 +1,7 @@
 -- `align::join` meets its contract: each part is what its call ensures.
-use mathlib.Core.Path.{_∙_}
+use mathlib.Core.Path.{ap, _∙_}
 use borrow.Author.Needs.{needs}
+use Rattle.zonotope.specs.Record.{widePartsOf}
 use Rattle.align.specs.Joins.{joins-centre, joins-radii, joins-centre-small, joins-radii-small}
 use Rattle.align.proofs.join.Statement.{statement}
 use Rattle.align.proofs.join.Tie as tie
@@ -33,18 +34,17 @@ same-length-3 c = search needs
 returns : tie.Need-returns
 returns c =
     let s = c .before .before .before .before .before .before .before .before .before .before .before .before .before .before .before
-    .before .before .before .before .before in
+    .before .before .before in
     let a = s .args .t1 in
     let b = s .args .t2 in
     let ids = s .args .ids .now in
     record {
       common = s .pre .2;
-      terms = c .before .before .before .before .before .before .before .before .before .before .before .before .before .before .before
-          .before .join-terms .ensures;
-      generators = c .before .before .before .before .before .before .before .before .before .before .before .join-generators .ensures
-          ids;
-      centre = c .before .before .before .before .before .add-centres .ensures ∙ joins-centre a b (s .pre .0) (s .pre .1) ids;
-      radii = c .add-radii .ensures ∙ joins-radii a b (s .pre .0) (s .pre .1) ids;
+      terms = c .before .before .before .before .before .before .before .before .before .before .before .before .before .before
+          .join-terms .ensures;
+      generators = c .before .before .before .before .before .before .before .before .before .join-generators .ensures ids;
+      centre = c .before .before .before .add-centres .ensures ∙ joins-centre a b (s .pre .0) (s .pre .1) ids;
+      radii = ap widePartsOf (c .add-radii .ensures) ∙ joins-radii a b (s .pre .0) (s .pre .1) ids;
       centre-small = joins-centre-small a b (s .pre .0) (s .pre .1) ids;
       radii-small = joins-radii-small a b (s .pre .0) (s .pre .1) ids;
     }

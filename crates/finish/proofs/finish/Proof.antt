@@ -15,7 +15,7 @@ too-wide-requires c κs =
     let a = c .before .before .before .before .before .before .before .before in
     let s = a .before .before .before .before .before .before .before .before in
     let v = a .reduce .ensures in
-    (dimension-few (s .args .weights) (s .args .term-limit) (s .args .generator-limit) v (s .pre .1), v .sized)
+    (dimension-few (s .args .weights) (s .args .term-limit) (s .args .generator-limit) v (s .pre .1), s .pre .0 .radii-small, v .sized)
 
 empty-requires : tie.Need-empty-requires
 empty-requires c κs = search needs

@@ -2,14 +2,14 @@
 use borrow.Author.Needs.{needs}
 use native.Mathlib.Omega.{arith}
 use Rattle.fold.specs.Folding.{small-mono, under-mono}
-use Rattle.finish.specs.Reduce.{centre-after, radii-after, rest-holds}
+use Rattle.finish.specs.Reduce.{centre-after, folded-after, rest-holds}
 use Rattle.finish.proofs.fold_rest.Statement.{statement}
 use Rattle.finish.proofs.fold_rest.Tie as tie
 
 fold-high-requires : tie.Need-fold-high-requires
 fold-high-requires c κs =
     let s = c .before .before .before .before .before .before in
-    (s .pre .0, small-mono (s .pre .1 .centre-small) (omega arith), under-mono (s .pre .1 .radii-small) (omega arith))
+    (s .pre .0, small-mono (s .pre .1 .centre-small) (omega arith), under-mono (s .pre .1 .folded-small) (omega arith))
 
 fold-terms-requires : tie.Need-fold-terms-requires
 fold-terms-requires c κs =
@@ -19,7 +19,7 @@ fold-terms-requires c κs =
       v .ready,
       s .pre .1 .weights-small,
       small-mono (centre-after 860 (v .bounded) (s .pre .0 .few) (s .pre .1 .centre-small)) (omega arith),
-      under-mono (radii-after 860 (v .bounded) (s .pre .0 .few) (s .pre .1 .radii-small)) (omega arith),
+      under-mono (folded-after 860 (v .bounded) (s .pre .0 .few) (s .pre .1 .folded-small)) (omega arith),
     )
 
 fold-generators-requires : tie.Need-fold-generators-requires
@@ -36,7 +36,7 @@ fold-generators-requires c κs =
       s .pre .1 .weights-small,
       small-mono (centre-after 860 (w .bounded) (v .ready .few)
           (centre-after 860 (v .bounded) (s .pre .0 .few) (s .pre .1 .centre-small))) (omega arith),
-      under-mono (radii-after 860 (w .bounded) (v .ready .few) (radii-after 860 (v .bounded) (s .pre .0 .few) (s .pre .1 .radii-small)))
+      under-mono (folded-after 860 (w .bounded) (v .ready .few) (folded-after 860 (v .bounded) (s .pre .0 .few) (s .pre .1 .folded-small)))
           (omega arith),
     )
 
@@ -65,7 +65,7 @@ returns c =
     v (w .0) (x .0)
     (s .pre .0 .few) (omega (arith, terms-few, s .pre .1 .term-limit)) (s .pre .1 .generators-few)
     (omega (arith, generators-few, s .pre .1 .generator-limit)) (s .pre .1 .generators-long)
-    (d .fold-generators .kept .0) (s .pre .1 .centre-small) (s .pre .1 .radii-small)
+    (d .fold-generators .kept .0) (s .pre .1 .centre-small) (s .pre .1 .folded-small)
 
 pub fold-rest-spec : {M : Type 1} → statement M
 fold-rest-spec =

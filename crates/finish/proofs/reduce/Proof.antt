@@ -26,7 +26,7 @@ fold-rest-requires c κs =
         generators-long = omega (arith, z .0, long, b .drop-zero-rows .kept .0);
         generators-small = z .2 _ (small-mono (s .pre .generators-small) (omega arith));
         centre-small = s .pre .centre-small;
-        radii-small = s .pre .radii-small;
+        folded-small = s .pre .radii-small .folded;
         weights-small = s .pre .weights-small;
         term-limit = s .pre .term-limit;
         generator-limit = s .pre .generator-limit;
@@ -53,7 +53,7 @@ returns c =
     let s = a .before .before .before .before .before .before .before in
     let g = s .args in
     holds-as (d .fold-rest .ensures)
-    (reduced-from (g .u) (coreOf (g .u .centre) (g .u .radii)) _ _ (g .weights) (g .generator-limit) (g .term-limit)
+    (reduced-from (g .u) (coreOf (g .u .centre) (g .u .radii .folded)) _ _ (g .weights) (g .generator-limit) (g .term-limit)
     (a .gather .ensures .is) (b .drop-zero-rows .ensures .0 .1))
 
 pub reduce-spec : {M : Type 1} → statement M

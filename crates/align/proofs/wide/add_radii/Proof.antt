@@ -1,86 +1,35 @@
--- `align::wide::add_radii` meets its contract.
-use mathlib.Core.Path.{_≡_, refl, sym, ap, ap₂, _∙_}
-use Prim.Native.Nat.{_+_, _-_, _≤_}
-use native.Mathlib.Omega.{arith}
-use lib.ListN.{getD}
+-- `align::wide::add_radii` meets its contract, part by part.
 use borrow.Author.Needs.{needs}
-use Rattle.whole.specs.Write.{write, write-none, write-next, write-all}
 use Rattle.align.proofs.wide.add_radii.Statement.{statement}
 use Rattle.align.proofs.wide.add_radii.Tie as tie
 
-abbrev Inv-loop : tie.InvT-loop
-Inv-loop a b out₀ i₀ out i = (i ≤ 6) × (out ≡ write out₀ 0 (λ j. getD a j 0 + getD b j 0) i)
+add-parts-requires : tie.Need-add-parts-requires
+add-parts-requires c κs = search needs
 
-abbrev μ-loop : tie.MeasureT-loop
-μ-loop a b out₀ i₀ out i = 6 - i
+add-parts-requires-2 : tie.Need-add-parts-requires-2
+add-parts-requires-2 c κs = search needs
 
-loop-holds : tie.Need-loop-holds Inv-loop μ-loop
-loop-holds c = (search needs, sym (write-none _ _ _))
+add-parts-requires-3 : tie.Need-add-parts-requires-3
+add-parts-requires-3 c κs = search needs
 
-mul-widen-u32 : tie.Need-mul-widen-u32 Inv-loop μ-loop
-mul-widen-u32 c = search needs
+add-parts-requires-4 : tie.Need-add-parts-requires-4
+add-parts-requires-4 c κs = search needs
 
-element-copy-out-widen-u32 : tie.Need-element-copy-out-widen-u32 Inv-loop μ-loop
-element-copy-out-widen-u32 c = search needs
-
-widen-u32-requires : tie.Need-widen-u32-requires Inv-loop μ-loop
-widen-u32-requires c κs = search needs
-
-mul-widen-u32-2 : tie.Need-mul-widen-u32-2 Inv-loop μ-loop
-mul-widen-u32-2 c = search needs
-
-element-copy-out-widen-u32-2 : tie.Need-element-copy-out-widen-u32-2 Inv-loop μ-loop
-element-copy-out-widen-u32-2 c = search needs
-
-widen-u32-requires-2 : tie.Need-widen-u32-requires-2 Inv-loop μ-loop
-widen-u32-requires-2 c κs = search needs
-
-add-out : tie.Need-add-out Inv-loop μ-loop
-add-out c = search needs
-
-mul-out : tie.Need-mul-out Inv-loop μ-loop
-mul-out c = search needs
-
-array-write-out : tie.Need-array-write-out Inv-loop μ-loop
-array-write-out c = search needs
-
-add-i : tie.Need-add-i Inv-loop μ-loop
-add-i c = search needs
-
-loop-less : tie.Need-loop-less Inv-loop μ-loop
-loop-less c = search needs
-
-loop-again : tie.Need-loop-again Inv-loop μ-loop
-loop-again c =
-    let at = c .before .before .before .before .before in (
-      omega arith,
-      write-next _ _ (at .loop .out) (at .loop .i) _ (at .loop .inv .1)
-          (ap₂ _+_ (c .before .before .widen-u32 .ensures .0) (c .widen-u322 .ensures .0)),
-    )
-
-returns : tie.Need-returns Inv-loop μ-loop
-returns c =
-    let at = c .before in
-    let e : at .loop .i ≡ 6 = omega arith in
-    at .loop .inv .1 ∙ ap (write _ _ _) e ∙ write-all _ _ 0 6 refl
+returns : tie.Need-returns
+returns c = λ i. record {
+  carried = c .before .before .before .before .before .before .before .before .before .before .before .before .before .before .before
+      .add-parts .ensures i;
+  rounded = c .before .before .before .before .before .before .before .before .before .before .add-parts2 .ensures i;
+  folded = c .before .before .before .before .before .add-parts3 .ensures i;
+  given = c .add-parts4 .ensures i;
+}
 
 pub add-radii-spec : {M : Type 1} → statement M
 add-radii-spec =
     tie.close
     (tie.spec
-    Inv-loop
-    μ-loop
-    loop-holds
-    mul-widen-u32
-    element-copy-out-widen-u32
-    widen-u32-requires
-    mul-widen-u32-2
-    element-copy-out-widen-u32-2
-    widen-u32-requires-2
-    add-out
-    mul-out
-    array-write-out
-    add-i
-    loop-less
-    loop-again
+    add-parts-requires
+    add-parts-requires-2
+    add-parts-requires-3
+    add-parts-requires-4
     returns)

@@ -41,23 +41,19 @@ mul-narrow-numbers-2 c = search needs
 narrow-numbers-requires-3 : tie.Need-narrow-numbers-requires-3
 narrow-numbers-requires-3 c κs = search needs
 
-narrow-radii-requires : tie.Need-narrow-radii-requires
-narrow-radii-requires c κs = search needs
-
 returns : tie.Need-returns
 returns c =
-    let s = c .before .before .before .before .before .before .before .before .before .before .before .before .before .before .before in
+    let s = c .before .before .before .before .before .before .before .before .before .before .before .before .before in
     let k = s .args .k in
     record {
-      centre-is = c .before .before .before .before .before .before .before .before .before .before .before .narrow-numbers .ensures
+      centre-is = c .before .before .before .before .before .before .before .before .before .narrow-numbers .ensures
           ∙ written-all _ (pos 0) 6 (at (k .centre)) refl;
       coefficients-are =
-          c .before .before .before .before .before .before .before .narrow-numbers2 .ensures
+          c .before .before .before .before .before .narrow-numbers2 .ensures
           ∙ numbers-array _ 240 (s .args .s .now) (k .terms) refl (same-at (pos 0) 240) (omega (arith, s .pre .terms-few));
       vectors-are =
-          c .before .before .before .narrow-numbers3 .ensures
+          c .before .narrow-numbers3 .ensures
           ∙ numbers-array _ 144 (s .args .g .now) (k .generators) refl (same-at (pos 0) 144) (omega (arith, s .pre .generators-few));
-      radii-are = c .narrow-radii .ensures;
     }
 
 pub narrow-all-spec : {M : Type 1} → statement M
@@ -73,5 +69,4 @@ narrow-all-spec =
     slice-aggregate-narrow-numbers-4
     mul-narrow-numbers-2
     narrow-numbers-requires-3
-    narrow-radii-requires
     returns)

@@ -1,72 +1,34 @@
--- `finish::record::narrow_radii` meets its contract: each place is written once.
+-- `finish::record::narrow_radii` meets its contract, part by part.
 use borrow.Author.Needs.{needs}
-use native.Mathlib.Omega.{arith}
-use mathlib.Core.Path.{_≡_, refl, sym, ap, _∙_}
-use Prim.Native.Nat.{ℕ, _+_, _-_, _≤_}
-use lib.ListN.{getD, set}
-use Rattle.whole.specs.Write.{write, write-none, write-again}
-use Rattle.fold.specs.Row.{written-all}
 use Rattle.finish.proofs.record.narrow_radii.Statement.{statement}
 use Rattle.finish.proofs.record.narrow_radii.Tie as tie
 
-abbrev Inv-loop : tie.InvT-loop
-Inv-loop radii out₀ i₀ out i = (i ≤ 6) × (out ≡ write out₀ 0 (λ j. getD radii j 0) i)
+narrow-part-requires : tie.Need-narrow-part-requires
+narrow-part-requires c κs = search needs
 
-abbrev μ-loop : tie.MeasureT-loop
-μ-loop radii out₀ i₀ out i = 6 - i
+narrow-part-requires-2 : tie.Need-narrow-part-requires-2
+narrow-part-requires-2 c κs = search needs
 
-loop-holds : tie.Need-loop-holds Inv-loop μ-loop
-loop-holds c = (search needs, sym (write-none _ _ _))
+narrow-part-requires-3 : tie.Need-narrow-part-requires-3
+narrow-part-requires-3 c κs = search needs
 
-mul-out : tie.Need-mul-out Inv-loop μ-loop
-mul-out c = search needs
+narrow-part-requires-4 : tie.Need-narrow-part-requires-4
+narrow-part-requires-4 c κs = search needs
 
-array-read-out : tie.Need-array-read-out Inv-loop μ-loop
-array-read-out c = search needs
-
-cast-out : tie.Need-cast-out Inv-loop μ-loop
-cast-out c = omega (arith, c .before .before .pre (c .before .loop .i) (omega arith))
-
-mul-out-2 : tie.Need-mul-out-2 Inv-loop μ-loop
-mul-out-2 c = search needs
-
-array-write-out : tie.Need-array-write-out Inv-loop μ-loop
-array-write-out c = search needs
-
-add-i : tie.Need-add-i Inv-loop μ-loop
-add-i c = search needs
-
-loop-less : tie.Need-loop-less Inv-loop μ-loop
-loop-less c = search needs
-
-loop-again : tie.Need-loop-again Inv-loop μ-loop
-loop-again c =
-    let at = c .before in
-    let i = at .loop .i in
-    let e : 0 + i ≡ i = omega arith in (
-      omega arith,
-      ap (λ (j : ℕ). set (at .loop .out) j (getD (at .before .args .t1) i 0)) (sym e)
-          ∙ write-again _ 0 _ (at .loop .out) i _ (at .loop .inv .1) refl,
-    )
-
-returns : tie.Need-returns Inv-loop μ-loop
-returns c =
-    let e : c .before .loop .i ≡ 6 = omega arith in
-    c .before .loop .inv .1 ∙ ap (write _ _ _) e ∙ written-all _ 0 6 (λ j. getD (c .before .before .args .t1) j 0) refl
+returns : tie.Need-returns
+returns c = λ i. record {
+  carried = c .before .before .before .narrow-part .ensures i;
+  rounded = c .before .before .narrow-part2 .ensures i;
+  folded = c .before .narrow-part3 .ensures i;
+  given = c .narrow-part4 .ensures i;
+}
 
 pub narrow-radii-spec : {M : Type 1} → statement M
 narrow-radii-spec =
     tie.close
     (tie.spec
-    Inv-loop
-    μ-loop
-    loop-holds
-    mul-out
-    array-read-out
-    cast-out
-    mul-out-2
-    array-write-out
-    add-i
-    loop-less
-    loop-again
+    narrow-part-requires
+    narrow-part-requires-2
+    narrow-part-requires-3
+    narrow-part-requires-4
     returns)

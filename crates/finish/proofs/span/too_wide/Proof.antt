@@ -10,10 +10,10 @@ use Rattle.finish.proofs.span.too_wide.Statement.{statement}
 use Rattle.finish.proofs.span.too_wide.Tie as tie
 
 abbrev Inv-loop : tie.InvT-loop
-Inv-loop k s g n i₀ i = (i ≤ n) × ((j : ℕ) → j < i → heldSpan k s g j ≤ maxSpan)
+Inv-loop k s g n parts i₀ i = (i ≤ n) × ((j : ℕ) → j < i → heldSpan parts k s g j ≤ maxSpan)
 
 abbrev μ-loop : tie.MeasureT-loop
-μ-loop k s g n i₀ i = n - i
+μ-loop k s g n parts i₀ i = n - i
 
 loop-holds : tie.Need-loop-holds Inv-loop μ-loop
 loop-holds c = (search needs, below-none _)
@@ -24,7 +24,7 @@ span-at-requires c κs = search needs
 returns : tie.Need-returns Inv-loop μ-loop
 returns c =
     let at = c .before .before .before in
-    let s = at .before in
+    let s = at .before .before in
     λ e heads.
     sym (too-wide (s .args .u) (s .args .k) e heads (s .args .s .now) (s .args .g .now) (s .pre .0) (at .loop .i) (search needs)
     (omega (arith, c .before .span-at .ensures, c .if1 .taken)))
@@ -43,7 +43,7 @@ loop-again c =
 returns-2 : tie.Need-returns-2 Inv-loop μ-loop
 returns-2 c =
     let at = c .before in
-    let s = at .before in
+    let s = at .before .before in
     λ e heads.
     sym (not-too-wide (s .args .u) (s .args .k) e heads (s .args .s .now) (s .args .g .now) (s .pre .0)
     (λ j l. at .loop .inv .1 j (omega arith)))

@@ -15,7 +15,7 @@ widen-radii-requires c κs = search needs
 
 returns : tie.Need-returns
 returns c =
-    let w = c .before .before .before .before in
+    let w = c .before .before .before in
     unfinished-parts (w .before .before .before .before .before .before .args .t1) (w .widen-numbers .ensures) (c .widen-radii .ensures)
     (w .before .before .before .before .before .before .pre .radii)
 
