@@ -86,7 +86,8 @@ module _ {b : List ℕ} (s : SetBody b) where
 module _ (b : List ℕ) {r : Examined} (from : r ≡ examined (firstOf (ofContents b))) where
   pub read-refused : isRefused r ≡ true → {x : PolyZonotope} → x ≡ pack noSet
       → _≡_ {A = Changed} (record { outcome = r; set = x }) (answered (firstOf (ofContents b)) (pack noSet) (givenSet b))
-  read-refused e {x} p = rw p (answer-refused (firstOf (ofContents b)) none from (sym (orElse-none (firstOf (ofContents b)))) (pack noSet) (givenSet b) e)
+  read-refused e {x} p = rw p (answer-refused (firstOf (ofContents b)) none from (sym (orElse-none (firstOf (ofContents b))))
+      (pack noSet) (givenSet b) e)
 
   pub read-accepted : isRefused r ≡ false → {x : PolyZonotope} → x ≡ pack (givenSet b)
       → _≡_ {A = Changed} (record { outcome = Accepted; set = x }) (answered (firstOf (ofContents b)) (pack noSet) (givenSet b))
@@ -123,9 +124,10 @@ module _ (b : List ℕ) where
       first-append (ofLayout b) ((5 if false) ∷ (ofContents b ++ ((9 if false) ∷ (10 if tooWide (givenSet b)) ∷ [])))
       ∙ ap (orElse (firstOf (ofLayout b))) (wide-once (outOfRange b) (badOrder (givenSet b)) (tooWide (givenSet b)))
 
-  -- a field that makes one set of the current one and the body's: the body's set, the factors of both, the result
+  -- a field that makes one set of the current one and the body's: the body's set, the factors of both, the result; what folding adds
+  -- refuses nothing
   pub made-order : (n : ℕ) (many : Bool) (m : Zonotope) (next : ℕ)
-      → firstOf (ofBody (ofSet b (differs (dimension b) n) many m next) (length b))
+      → firstOf (ofBody (ofSet b (differs (dimension b) n) many m [] next) (length b))
       ≡ orElse (firstOf (ofSummand n b)) (orElse (firstOf ((9 if many) ∷ [])) (ofResult m))
   made-order n many m next =
       first-append (ofSummand n b) _ ∙ ap (orElse (firstOf (ofSummand n b))) (first-append ((9 if many) ∷ []) _)
@@ -146,10 +148,12 @@ module _ (o p : Option ℕ) {w : Option ℕ} {r : Examined} (from : r ≡ examin
   refused-empty e q = rw q (answer-refused o p from order (pack noSet) m e)
 
 -- the summand of a sum that nothing refuses
-pub summand-accepted : (n : ℕ) (b : List ℕ) → firstOf (ofSummand n b) ≡ none → SetBody b × records.AcceptedRecord (pack (givenSet b)) × (dimension b ≡ n)
+pub summand-accepted : (n : ℕ) (b : List ℕ) → firstOf (ofSummand n b) ≡ none → SetBody b × records.AcceptedRecord (pack (givenSet b)) ×
+    (dimension b ≡ n)
 unfolding firstOf
 summand-accepted n b e =
-    let parts = neither (firstOf (ofLayout b)) (firstOf ((5 if differs (dimension b) n) ∷ ofContents b)) (sym (first-append (ofLayout b) ((5 if differs (dimension b) n) ∷ ofContents b)) ∙ e) in
+    let parts = neither (firstOf (ofLayout b)) (firstOf ((5 if differs (dimension b) n) ∷ ofContents b)) (sym (first-append (ofLayout b)
+    ((5 if differs (dimension b) n) ∷ ofContents b)) ∙ e) in
     let laid = set-body b (parts .0) .1 in
     let dimensions = passed (differs (dimension b) n) 5 (parts .1) in
     let range = passed (outOfRange b) 6 (dimensions .1) in
@@ -187,7 +191,7 @@ module _ (first : PolyZonotope) (b : List ℕ) (many : Zonotope → Bool) (made 
 
   -- what refuses the field
   abbrev refusal : Option ℕ
-  refusal = firstOf (ofBody (ofSet b (differs (dimension b) (first .dimension)) (many (givenSet b)) (made (givenSet b)) next) (length b))
+  refusal = firstOf (ofBody (ofSet b (differs (dimension b) (first .dimension)) (many (givenSet b)) (made (givenSet b)) [] next) (length b))
 
   outcome-is : g .outcome ≡ examined own
   outcome-is = said own (pack noSet) (givenSet b) from

@@ -111,7 +111,7 @@ module _ (own : List Cause) (result : Zonotope) (s : PolyZonotope) {o : Examined
 module _ (b : List ℕ) (bytes : ℕ) (range : Bool) (s : PolyZonotope) (result : Zonotope) where
   -- the number that refuses it
   abbrev fieldRefusal : Option ℕ
-  fieldRefusal = firstOf (ofBody (ofStepBody b bytes range (view s) 0 result) (length b))
+  fieldRefusal = firstOf (ofBody (ofStepBody b bytes range (view s) 0 result []) (length b))
 
   -- what is answered, and what is left in the work slices
   abbrev FieldStepped : Changed → List ℤ → List ℤ → List ℕ → List ℕ → Type 0

@@ -1,41 +1,53 @@
--- The radii of the rounded blend of two accepted records: the larger independent part, and half the count of its inexact roundings.
+-- The radii of the rounded blend of two accepted records: the larger independent part is carried, and rounding adds half the count of its
+-- inexact roundings.
 use mathlib.Core.Path.{_≡_, refl, sym, ap, ap₂, _∙_}
 use mathlib.Core.List.{List, []}
-use Prim.Native.Nat.{ℕ, _+_, _*_, _/_, _<_, _≤_}
+use Prim.Native.Nat.{ℕ, _+_, _*_, _/_, _^_, _<_, _≤_}
+use native.Mathlib.Decide.{decLt}
 use native.Mathlib.Omega.{arith}
 use lib.ListN.{length, getD, replicate}
 use lib.IntN.{ℤ, pos}
 use Rattle.whole.specs.Round.{scale}
-use Rattle.whole.specs.Tab.{tab, tab-cong, getD-tab}
+use Rattle.whole.specs.Tab.{tab, tab-cong, getD-tab, getD-tab-past}
 use Rattle.model.specs.Set.{Zonotope, independentSize}
-use Rattle.model.specs.Step.{rounded, roundedRadius, inexactAt}
+use Rattle.model.specs.Step.{rounded, carriedAt, roundedAt, inexactAt}
 use Rattle.model.specs.Hull.{larger, blended}
 use Rattle.zonotope.specs.declared.PolyZonotope.{PolyZonotope}
-use Rattle.zonotope.specs.Record.{view}
+use Rattle.zonotope.specs.declared.WideRadii.{WideRadii}
+use Rattle.zonotope.specs.Record.{widePartsOf, totalsOf, anew, firsts, firstParts, view}
+use Rattle.zonotope.specs.View.{anew-rounded}
 use Rattle.zonotope.specs.Counts.{countable}
 use Rattle.raw.specs.Accepted.{InSpan}
 use Rattle.raw.specs.Kept.{kept-all}
 use Rattle.raw.specs.Parts.{wideVectors}
 use Rattle.image.specs.Remainder.{Below, spread}
 use Rattle.image.specs.Radii.{independent-are, independent-below}
-use Rattle.image.specs.Rounding.{inexactOf}
-use Rattle.image.specs.Counted.{counted, counts-below}
-use Rattle.answers.specs.Accepted.{AcceptedRecord}
+use Rattle.image.specs.Rounding.{inexactOf, halfUp}
+use Rattle.image.specs.Counted.{counted, counts-below, halves-below}
+use Rattle.model.proofs.Radii.{radius-carried}
+use Rattle.model.proofs.StepShape.{inexact-past}
+use Rattle.model.proofs.HullShape.{blended-shaped}
+use Rattle.finish.specs.Held.{PartsUnder}
+use Rattle.answers.specs.Accepted.{AcceptedRecord, ready}
+use Rattle.answers.specs.Finishing.{anew-under}
 use Rattle.summing.specs.Summable.{Summable}
 use Rattle.hulling.specs.Blended.{Blended}
-use Rattle.hulling.specs.Radii.{hullRadius, hullRadii, radii-small}
+use Rattle.hulling.specs.Radii.{largerPart, largerParts, parts-small}
 
 -- the independent part of each coordinate
 abbrev pub parts : PolyZonotope → List ℕ
-parts s = tab 6 (spread (s .vectors) (s .generators) (s .radii))
+parts s = tab 6 (spread (s .vectors) (s .generators) (totalsOf (s .radii)))
 
 -- the inexact roundings of each coordinate: of the raw rows and the centre, since a blend has no generators
 abbrev pub roundings : List ℤ → ℕ → List ℤ → List ℕ
 roundings w rows centre = tab 6 (inexactOf w rows centre (replicate 144 (pos 0)) 0)
 
--- the radii from them
-abbrev pub blendRadii : PolyZonotope → PolyZonotope → List ℤ → ℕ → List ℤ → List ℕ
-blendRadii a b w rows centre = hullRadii (a .dimension) (parts a) (parts b) (roundings w rows centre)
+-- what rounding adds, half of each count, and the radii
+abbrev pub halvesOf : List ℕ → List ℕ
+halvesOf counts = tab 6 (λ i. halfUp (getD counts i 0))
+
+abbrev pub blendRadii : PolyZonotope → PolyZonotope → List ℤ → ℕ → List ℤ → WideRadii
+blendRadii a b w rows centre = anew (largerParts (a .dimension) (parts a) (parts b)) (halvesOf (roundings w rows centre))
 
 -- ---- an accepted record
 module _ (s : PolyZonotope) (ok : AcceptedRecord s) where
@@ -56,7 +68,7 @@ module _ (s : PolyZonotope) (ok : AcceptedRecord s) where
   parts-below = independent-below s for-parts
 
   part-at : (i : ℕ) → i < 6 → getD (parts s) i 0 ≡ independentSize (view s) i
-  part-at i l = getD-tab 6 (spread (s .vectors) (s .generators) (s .radii)) 0 i l ∙ independent-are s for-parts i l
+  part-at i l = getD-tab 6 (spread (s .vectors) (s .generators) (totalsOf (s .radii))) 0 i l ∙ independent-are s for-parts i l
 
 -- ---- the counts
 pub roundings-below : (w : List ℤ) (rows : ℕ) (centre : List ℤ) → rows ≤ 161 → Below 4294967296 (roundings w rows centre)
@@ -75,10 +87,12 @@ module _ (a b : PolyZonotope) (h : Summable a b) (next : ℕ) {f : List ℕ} {w 
   abbrev z : Zonotope
   z = blended next (view a) (view b)
 
-  pub blend-radii-small : Below 4294967296 (blendRadii a b w rows centre)
+  pub blend-radii-small : PartsUnder (2 ^ 40) (blendRadii a b w rows centre)
   blend-radii-small =
       let few = d .few in
-      radii-small (a .dimension) (parts-below a (h .first)) (parts-below b (h .second)) (roundings-below w rows centre (omega arith))
+      let larger = parts-small (a .dimension) (parts-below a (h .first)) (parts-below b (h .second)) in
+      let halves = halves-below _ _ (roundings-below w rows centre (omega arith)) refl in
+      anew-under _ _ (λ i. omega (arith, larger .below i)) (λ i. omega (arith, halves .below i))
 
   module _ (lw : rows * 6 ≤ length w) where
     count-at : (i : ℕ) → i < 6 → getD (roundings w rows centre) i 0 ≡ inexactAt z i
@@ -89,20 +103,36 @@ module _ (a b : PolyZonotope) (h : Summable a b) (next : ℕ) {f : List ℕ} {w 
         no-vectors i l
 
     -- ---- the radii
-    radius-at : (i : ℕ) → i < 6 → i < a .dimension → hullRadius (parts a) (parts b) (roundings w rows centre) i ≡ roundedRadius z i
-    unfolding roundedRadius blended view
-    radius-at i l m =
-        ap₂ _+_
-        (ap₂ larger (part-at a (h .first) i l) (part-at b (h .second) i l)
-        ∙ sym (ap (λ (n : ℕ). (n + 16777215) / scale) (getD-tab (a .dimension) _ 0 i m)
-        ∙ whole (larger (independentSize (view a) i) (independentSize (view b) i))))
-        (ap (λ (n : ℕ). (n + 1) / 2) (count-at i l))
+    carried-at : (i : ℕ) → i < 6 → i < a .dimension → largerPart (parts a) (parts b) i ≡ carriedAt z i
+    unfolding carriedAt blended view
+    carried-at i l m =
+        ap₂ larger (part-at a (h .first) i l) (part-at b (h .second) i l)
+        ∙ sym (ap (λ (n : ℕ). (n + 16777215) / scale) (radius-carried (a .dimension) _ i ∙ getD-tab (a .dimension) _ 0 i m)
+        ∙ whole (larger (independentSize (view a) i) (independentSize (view b) i)))
       where
         whole : (n : ℕ) → (scale * n + 16777215) / scale ≡ n
         whole n = omega arith
 
-    pub radii-are : blendRadii a b w rows centre ≡ tab 6 (λ i. getD (rounded z .radii) i 0)
+    carried-are : largerParts (a .dimension) (parts a) (parts b) ≡ firsts 6 (rounded z .radii .carried)
     unfolding rounded blended view
-    radii-are =
+    carried-are =
         let few = coordinates-few a (h .first) in
-        ap (λ (v : List ℕ). tab 6 (λ i. getD v i 0)) (tab-cong (a .dimension) _ _ (λ i m. radius-at i (omega arith) m))
+        ap (firsts 6) (tab-cong (a .dimension) _ _ (λ i m. carried-at i (omega arith) m))
+
+    -- past the coordinates nothing is rounded
+    rounded-at : (i : ℕ) → i < 6 → halfUp (getD (roundings w rows centre) i 0) ≡ getD (tab (z .dimension) (roundedAt z)) i 0
+    unfolding roundedAt blended view
+    rounded-at i l = ap halfUp (count-at i l) ∙ go (decLt i (z .dimension))
+      where
+        go : Dec (i < z .dimension) → halfUp (inexactAt z i) ≡ getD (tab (z .dimension) (roundedAt z)) i 0
+        go (yes m) = sym (getD-tab (z .dimension) (roundedAt z) 0 i m)
+        go (no m) =
+            ap halfUp (inexact-past (blended-shaped next (ready a (h .first)) (ready b (h .second)) (h .same)) i (omega arith))
+            ∙ sym (getD-tab-past (z .dimension) (roundedAt z) 0 i (omega arith))
+
+    rounded-are : halvesOf (roundings w rows centre) ≡ firsts 6 (rounded z .radii .rounded)
+    unfolding rounded
+    rounded-are = tab-cong 6 _ _ rounded-at
+
+    pub radii-are : widePartsOf (blendRadii a b w rows centre) ≡ firstParts 6 (rounded z .radii)
+    radii-are = anew-rounded z carried-are rounded-are

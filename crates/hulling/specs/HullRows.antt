@@ -17,17 +17,17 @@ use Rattle.model.specs.Hull.{blended, hull}
 use Rattle.model.proofs.StepShape.{rounded-shaped}
 use Rattle.model.proofs.HullShape.{blended-shaped}
 use Rattle.zonotope.specs.declared.PolyZonotope.{PolyZonotope}
-use Rattle.zonotope.specs.Record.{view}
+use Rattle.zonotope.specs.declared.WideRadii.{WideRadii}
+use Rattle.zonotope.specs.Record.{widePartsOf, view}
 use Rattle.rows.specs.Rows.{numberRow, rowsOf, Small}
 use Rattle.raw.specs.Append.{Bounded, small-bounded}
-use Rattle.image.specs.Remainder.{Below}
 use Rattle.image.specs.Rounding.{roundTerm, rounded-rows, rounded-small, bounded-mono}
 use Rattle.image.specs.Counted.{round-terms, round-vector}
 use Rattle.align.specs.declared.Identifiers.{Identifiers}
 use Rattle.align.specs.Sum.{Common}
 use Rattle.finish.specs.declared.Unfinished.{Unfinished}
 use Rattle.finish.specs.declared.Finished.{Finished}
-use Rattle.finish.specs.Held.{held, finishedAs}
+use Rattle.finish.specs.Held.{PartsUnder, held, finishedAs}
 use Rattle.finish.specs.Wide.{wide, wideTerm, wideVector}
 use Rattle.finish.specs.WideFinish.{Narrow}
 use Rattle.answers.specs.Accepted.{ready}
@@ -44,7 +44,7 @@ roundedFirst w n = write w 0 (λ x. round (at w x)) n
 
 module _ (a b : PolyZonotope) (h : Summable a b) (next : ℕ) (all : Identifiers) (o : Common (joined (view a) (view b)) all)
     (few : all .count < 12) (f : List ℕ) (w centre : List ℤ) (d : Blended (view a) (view b) (a .terms) (b .terms) f w centre)
-    (lf : length f ≡ 1932) (lw : length w ≡ 966) (numbers middle : List ℤ) (ids radii : List ℕ) where
+    (lf : length f ≡ 1932) (lw : length w ≡ 966) (numbers middle : List ℤ) (ids : List ℕ) (radii : WideRadii) where
   abbrev rows : ℕ
   rows = 1 + ((a .terms + b .terms) + (a .terms + b .terms))
 
@@ -87,9 +87,6 @@ module _ (a b : PolyZonotope) (h : Summable a b) (next : ℕ) (all : Identifiers
     middle-small : Small 274877906945 middle
     middle-small = rounded-vector-small centre middle centre-long (d .centre-small) middle-made
 
-    radii-below : Below 4294967296 radii
-    radii-below = subst (Below 4294967296) (sym radii-made) (blend-radii-small a b h next d)
-
     -- ---- the set
     abbrev u : Unfinished
     u = record {
@@ -117,7 +114,7 @@ module _ (a b : PolyZonotope) (h : Summable a b) (next : ℕ) (all : Identifiers
       centre = centre-is k;
       terms = (rows-part f numbers rows ∙ terms-are) k;
       generators = tab-none (numberRow noneLent) k;
-      radii = (radii-made ∙ radii-are a b h next d room) k;
+      radii = (ap widePartsOf radii-made ∙ radii-are a b h next d room) k;
     }
 
     image-narrow : Narrow image
@@ -145,7 +142,7 @@ module _ (a b : PolyZonotope) (h : Summable a b) (next : ℕ) (all : Identifiers
           numbers-small = part-small (2 ^ 40) (rows * 6) numbers (omega arith) (λ i l. omega (arith, numbers-small .bounded i l));
           generators-small = zeros-small 144;
           centre-small = record { small = λ i. omega (arith, middle-small .small i) };
-          radii-small = record { under = λ i. omega (arith, radii-below .below i) };
+          radii-small = subst (PartsUnder (2 ^ 40)) (sym radii-made) (blend-radii-small a b h next d);
           widened = record { source = image; is = image-wide; narrow = image-narrow };
         }
 

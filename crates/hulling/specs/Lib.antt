@@ -3,7 +3,7 @@
 --     Blending    the rows that are written, from the rows of the sum
 --     Sizes       of raw and rounded numbers
 --     Blended     the blend of two sets before rounding, in rows
---     Radii       the radii, from independent parts and counts
+--     Radii       what is carried, from independent parts
 --     BlendRadii  the radii of the rounded blend
 --     WithNext    the identifiers of both sets and the next
 --     HullRows    the rounded blend in rows; finished it is the hull

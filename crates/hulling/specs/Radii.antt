@@ -1,8 +1,8 @@
--- The radii of a hull, from independent parts and counts.
+-- What a hull carries on, from independent parts.
 use mathlib.Core.Path.{_≡_, sym, _∙_}
 use mathlib.Core.List.{List}
 use mathlib.Core.Bool.{Bool, true, false, cond}
-use Prim.Native.Nat.{ℕ, _+_, _/_, _<_, _≤_}
+use Prim.Native.Nat.{ℕ, _<_, _≤_}
 use native.Mathlib.Decide.{decLt}
 use native.Mathlib.Omega.{arith}
 use lib.Dec.{ltb}
@@ -12,15 +12,16 @@ use Rattle.whole.specs.Write.{write, write-length, write-after}
 use Rattle.model.specs.Hull.{larger}
 use Rattle.fold.specs.Marks.{same-at}
 use Rattle.forms.specs.Filling.{first-at}
+use Rattle.zonotope.specs.Record.{firsts}
 use Rattle.image.specs.Remainder.{Below, tab-below}
 
--- of coordinate i, from the independent parts p and q and the counts
-abbrev pub hullRadius : List ℕ → List ℕ → List ℕ → ℕ → ℕ
-hullRadius p q counts i = larger (getD p i 0) (getD q i 0) + (getD counts i 0 + 1) / 2
+-- the larger of the independent parts p and q at coordinate i
+abbrev pub largerPart : List ℕ → List ℕ → ℕ → ℕ
+largerPart p q i = larger (getD p i 0) (getD q i 0)
 
 -- of n coordinates, 0 in the other places
-abbrev pub hullRadii : ℕ → List ℕ → List ℕ → List ℕ → List ℕ
-hullRadii n p q counts = tab 6 (λ i. getD (tab n (hullRadius p q counts)) i 0)
+abbrev pub largerParts : ℕ → List ℕ → List ℕ → List ℕ
+largerParts n p q = firsts 6 (tab n (largerPart p q))
 
 -- ---- n of six places written, 0 in the others
 module _ (n : ℕ) (f : ℕ → ℕ) (few : n ≤ 6) where
@@ -48,12 +49,8 @@ larger-small K m n p q = go (ltb m n)
     go true = q
     go false = p
 
-pub radii-small : (n : ℕ) {p q counts : List ℕ} → Below 1048576 p → Below 1048576 q → Below 4294967296 counts
-    → Below 4294967296 (hullRadii n p q counts)
-radii-small n {p} {q} {counts} sp sq sc =
-    tab-below 4294967296 6 (λ i. getD (tab n (hullRadius p q counts)) i 0) (λ i _. inner .below i)
+pub parts-small : (n : ℕ) {p q : List ℕ} → Below 1048576 p → Below 1048576 q → Below 1048576 (largerParts n p q)
+parts-small n {p} {q} sp sq = tab-below 1048576 6 (λ i. getD (tab n (largerPart p q)) i 0) (λ i _. inner .below i)
   where
-    inner : Below 4294967296 (tab n (hullRadius p q counts))
-    inner = tab-below 4294967296 n (hullRadius p q counts) (λ i _.
-        let l = larger-small 1048576 (getD p i 0) (getD q i 0) (sp .below i) (sq .below i) in
-        let c = sc .below i in omega arith)
+    inner : Below 1048576 (tab n (largerPart p q))
+    inner = tab-below 1048576 n (largerPart p q) (λ i _. larger-small 1048576 (getD p i 0) (getD q i 0) (sp .below i) (sq .below i))

@@ -26,6 +26,7 @@ use finish::Finished;
 use finish::Unfinished;
 use zonotope::Examined;
 use zonotope::PolyZonotope;
+use zonotope::WideRadii;
 
 mod blending;
 mod radii;
@@ -121,7 +122,7 @@ fn blend_radii(
     w: &[i64],
     rows: usize,
     centre: &[i64; 6],
-) -> [u64; 6]
+) -> WideRadii
     requires { ⌜ AcceptedRecord first × AcceptedRecord second × (rows ≤ 161) × (rows * 6 ≤ length (now w)) ⌝ }
     ensures { λ r. ⌜ r ≡ blendRadii first second (now (w .entry)) rows (now (centre .entry)) ⌝ }
 {
@@ -129,7 +130,9 @@ fn blend_radii(
     let counts = image::rounding::counts(w, rows, centre, &none, 0);
     let p = independent_parts(first);
     let q = independent_parts(second);
-    radii::hull_radii(&p, &q, &counts, first.dimension)
+    let carried = radii::larger_parts(&p, &q, first.dimension);
+    let rounded = image::rounding::halves(&counts);
+    zonotope::parts::anew(carried, rounded)
 }
 
 // The generators' sizes and the radius of each coordinate.
@@ -138,8 +141,9 @@ fn independent_parts(s: PolyZonotope) -> [u64; 6]
     ensures { λ r. ⌜ r ≡ parts s ⌝ }
 {
     let vectors = s.vectors;
-    let radii = s.radii;
-    image::remainder::spreads(&vectors, s.generators, &radii)
+    let own = s.radii;
+    let totals = zonotope::parts::totals(own);
+    image::remainder::spreads(&vectors, s.generators, &totals)
 }
 
 // The first twelve numbers, with `next` after `count` of them.

@@ -11,16 +11,17 @@ use Rattle.whole.specs.Sum.{monoidℕ, sumBy, sumℕ, uptoBy, sum-++, upto-cong
 use Rattle.whole.specs.Tab.{tab, tab-cong, map-tab, tab-getD, getD-tab, getD-tab-past}
 use Rattle.rows.specs.Rows.{rowsOf}
 use Rattle.model.specs.Set.{Term, Zonotope, at}
-use Rattle.model.specs.Step.{Step, own, paired, pairs, raw, rawCentre, rawLinear, rawSquare, rawPair, remainder, inexactAt, roundedRadius}
+use Rattle.model.specs.Step.{Step, own, paired, pairs, raw, rawCentre, rawLinear, rawSquare, rawPair, remainder}
+use Rattle.model.specs.Step.{inexactAt, carriedAt, roundedAt}
 use Rattle.model.specs.Operations.{disturb}
 use Rattle.forms.specs.Tables.{rowOf}
 use Rattle.raw.specs.Sums.{sum-tab}
 use Rattle.raw.specs.Append.{wideTerm, term-same}
 use Rattle.raw.specs.Kept.{Kept}
 use Rattle.raw.specs.Parts.{wideVectors}
-use Rattle.image.specs.Rounding.{inexactIn, inexactOf, roundTerm, round-zero, zero-exact, inexact-small, counted-rows}
+use Rattle.image.specs.Rounding.{inexactIn, inexactOf, halfUp, roundTerm, round-zero, zero-exact, inexact-small, counted-rows}
 use Rattle.image.specs.KeptRows.{kept-counted}
-use Rattle.image.specs.Remainder.{Below, tab-below, roundedUp}
+use Rattle.image.specs.Remainder.{Below, tab-below, roundedUp, imageLimit}
 use Rattle.image.specs.Gaining.{gainedImage, gained-radius}
 
 -- ---- rounding and the wide form
@@ -101,6 +102,11 @@ counts-below w centre vectors r g counts e h l =
     rows-below : (v : List ℤ) (n i : ℕ) → inexactIn v n i ≤ n * 1
     rows-below v n i = upto-bound (λ t. inexact (rowOf v t i)) 1 n (λ t _. inexact-small (rowOf v t i))
 
+-- so what rounding adds is small
+pub halves-below : (counts halves : List ℕ) → Below 4294967296 counts → halves ≡ tab 6 (λ i. halfUp (getD counts i 0))
+    → Below imageLimit halves
+halves-below counts halves h e = rw e (tab-below imageLimit 6 (λ i. halfUp (getD counts i 0)) (λ i _. omega (arith, h .below i)))
+
 -- sets with the same wide form have the same counts
 pub same-inexact : (y z : Zonotope) → map wideTerm (y .terms) ≡ map wideTerm (z .terms) → wideVectors (y .generators) ≡
     wideVectors (z .generators)
@@ -148,10 +154,13 @@ module _ (p : Step) (z : Zonotope) (i : ℕ) (past : p .rows ≤ i) where
       ∙ ap₂ _+_ (none-mapped (own p z) (λ t. none-at (rawLinear p z (t .coefficients))) (z .terms)) (none-paired (z .terms))))
       (none-generated (z .generators))
 
-  pub none-rounded : (gains : List ℕ) → roundedRadius (gainedImage gains p z) i ≡ 0
-  unfolding roundedRadius inexactAt disturb raw
-  none-rounded gains =
-      ap₂ roundedUp
+  pub none-carried : (gains : List ℕ) → carriedAt (gainedImage gains p z) i ≡ 0
+  unfolding carriedAt
+  none-carried gains =
+      ap roundedUp
       (gained-radius gains p z i
       ∙ ap₂ _+_ (getD-tab-past (p .rows) (remainder p z) 0 i past) (getD-tab-past (p .rows) (λ j. getD gains j 0) 0 i past))
-      none-inexact
+
+  pub none-rounded : (gains : List ℕ) → roundedAt (gainedImage gains p z) i ≡ 0
+  unfolding roundedAt inexactAt disturb
+  none-rounded gains = ap halfUp none-inexact

@@ -1,6 +1,7 @@
--- What `of_step` promises: rows, centre, generators and radii are those of the definition's rounded image, in wide form.
+-- What `of_step` promises: rows, centre, generators, what is carried and what rounding adds are those of the definition's rounded image, in
+-- wide form.
 use mathlib.Core.List.{List, map}
-use mathlib.Core.Path.{_≡_, sym, _∙_, ap, ap₂, subst}
+use mathlib.Core.Path.{_≡_, refl, sym, _∙_, ap, ap₂, subst}
 use Prim.Native.Nat.{ℕ, _+_, _*_, _<_, _≤_}
 use native.Mathlib.Omega.{arith}
 use lib.IntN.{ℤ, pos}
@@ -10,7 +11,7 @@ use Rattle.whole.specs.Tab.{tab, tab-cong, map-tab, length-tab, getD-tab}
 use Rattle.whole.specs.Write.{write, write-all}
 use Rattle.rows.specs.Rows.{rowsOf, Small}
 use Rattle.model.specs.Set.{Term, Zonotope, at}
-use Rattle.model.specs.Step.{Step, raw, rawCentre, rawLinear, remainder, inexactAt, roundedRadius, rounded}
+use Rattle.model.specs.Step.{Step, raw, rawCentre, rawLinear, remainder, inexactAt, carriedAt, roundedAt, rounded}
 use Rattle.model.specs.Operations.{disturb}
 use Rattle.zonotope.specs.Record.{view}
 use Rattle.zonotope.specs.declared.PolyZonotope.{PolyZonotope}
@@ -23,13 +24,14 @@ use Rattle.raw.specs.Append.{wideTerm, Bounded, KeptFrom, kept-after}
 use Rattle.raw.specs.Kept.{Kept, kept-to}
 use Rattle.raw.specs.Terms.{RawTerms}
 use Rattle.image.specs.KeptRows.{kept-round}
-use Rattle.image.specs.Rounding.{inexactOf, roundTerm, round-small, rounded-rows, rounded-small, bounded-mono}
+use Rattle.image.specs.Rounding.{inexactOf, halfUp, roundTerm, round-small, rounded-rows, rounded-small, bounded-mono}
 use Rattle.image.specs.Remainder.{Below, roundedUp, imageLimit}
 use Rattle.image.specs.Gaining.{Gaining, gainedImage, gained-radius}
-use Rattle.image.specs.Radii.{NewRadii}
+use Rattle.image.specs.Radii.{Carried}
 use Rattle.raw.specs.Parts.{wideVectors, RawCentre, RawGenerators}
 use Rattle.image.specs.Padded.{same-terms, same-centre, same-remainder, same-generators}
-use Rattle.image.specs.Counted.{round-terms, round-vector, round-vectors, counted, same-inexact, none-rounded}
+use Rattle.image.specs.Counted.{round-terms, round-vector, round-vectors, counted, counts-below, halves-below}
+use Rattle.image.specs.Counted.{same-inexact, none-carried, none-rounded}
 use Rattle.image.specs.declared.Image.{Image}
 
 -- r, with the first rows of the slices e and w, is the rounded image of s under p in wide form, where S gains these numbers; e₀ and w₀
@@ -40,11 +42,13 @@ pub record Imaged (p : Step) (gains : List ℕ) (s : PolyZonotope) (e₀ : List 
   pub terms : Kept (rowsOf e w (r .rows)) (map wideTerm (rounded (gainedImage gains p (view s)) .terms))
   pub centre : r .centre ≡ tab 6 (at (rounded (gainedImage gains p (view s)) .centre))
   pub generators : r .generators ≡ wideVectors (rounded (gainedImage gains p (view s)) .generators)
-  pub radii : r .radii ≡ tab 6 (λ i. getD (rounded (gainedImage gains p (view s)) .radii) i 0)
+  pub carried : r .carried ≡ tab 6 (λ i. getD (rounded (gainedImage gains p (view s)) .radii .carried) i 0)
+  pub rounded : r .rounded ≡ tab 6 (λ i. getD (rounded (gainedImage gains p (view s)) .radii .rounded) i 0)
   pub small-terms : Bounded imageLimit (r .rows * 6) w
   pub small-centre : Small imageLimit (r .centre)
   pub small-generators : Small imageLimit (r .generators)
-  pub small-radii : Below imageLimit (r .radii)
+  pub small-carried : Below imageLimit (r .carried)
+  pub small-rounded : Below imageLimit (r .rounded)
   pub later-exponents : KeptFrom 0 (r .rows * 12) e₀ e
   pub later-numbers : KeptFrom (pos 0) (r .rows * 6) w₀ w
 
@@ -71,8 +75,8 @@ module _ (c a q lines both : List ℤ) (s : PolyZonotope) (ok : InSpan s) (eb : 
     (rounded-centre : centre′ ≡ write centre 0 (λ x. round (at centre x)) 6)
     (vectors vectors′ : List ℤ) (raw-vectors : RawGenerators lines s vectors)
     (rounded-vectors : vectors′ ≡ write vectors 0 (λ x. round (at vectors x)) 144)
-    (gains counts radii : List ℕ) (counting : counts ≡ tab 6 (inexactOf w r centre vectors (s .generators)))
-    (new-radii : NewRadii lines q s gains counts radii) where
+    (gains counts halves carried : List ℕ) (counting : counts ≡ tab 6 (inexactOf w r centre vectors (s .generators)))
+    (halving : halves ≡ tab 6 (λ i. halfUp (getD counts i 0))) (carrying : Carried lines q s gains carried) where
   abbrev P : Step
   P = six c a q
 
@@ -103,17 +107,20 @@ module _ (c a q lines both : List ℤ) (s : PolyZonotope) (ok : InSpan s) (eb : 
       ∙ counted z e w centre vectors r (s .generators) long (images-length P s) (counts-in s ok .3) (raw-terms .rows c a q eb el)
       centre-wide (raw-vectors .numbers c a q el) i h
 
-  radius-at : (i : ℕ) → i < 6
-      → roundedUp (remainder P (view s) i + getD gains i 0) (getD counts i 0) ≡ getD (tab 6 (roundedRadius gained)) i 0
-  unfolding roundedRadius inexactAt disturb raw
-  radius-at i h =
-      ap₂ roundedUp
+  carried-at : (i : ℕ) → i < 6 → roundedUp (remainder P (view s) i + getD gains i 0) ≡ getD (tab 6 (carriedAt gained)) i 0
+  unfolding carriedAt
+  carried-at i h =
+      ap roundedUp
       (sym (gained-radius gains P (view s) i
       ∙ ap₂ _+_ (getD-tab 6 (remainder P (view s)) 0 i h) (getD-tab 6 (λ j. getD gains j 0) 0 i h)))
-      (count-at i h)
-      ∙ sym (getD-tab 6 (roundedRadius gained) 0 i h)
+      ∙ sym (getD-tab 6 (carriedAt gained) 0 i h)
 
-  pub imaged : Imaged P gains s e₀ w₀ (record { rows = r; centre = centre′; generators = vectors′; radii = radii }) e w′
+  rounded-at : (i : ℕ) → i < 6 → halfUp (getD counts i 0) ≡ getD (tab 6 (roundedAt gained)) i 0
+  unfolding roundedAt inexactAt disturb
+  rounded-at i h = ap halfUp (count-at i h) ∙ sym (getD-tab 6 (roundedAt gained) 0 i h)
+
+  pub imaged : Imaged P gains s e₀ w₀
+      (record { rows = r; centre = centre′; generators = vectors′; carried = carried; rounded = halves }) e w′
   unfolding rounded disturb raw
   imaged = record {
     inside = raw-terms .inside;
@@ -126,12 +133,16 @@ module _ (c a q lines both : List ℤ) (s : PolyZonotope) (ok : InSpan s) (eb : 
         vectors-rounded
         ∙ ap (λ (v : List ℤ). tab 144 (λ x. round (at v x))) (raw-vectors .numbers c a q el)
         ∙ round-vectors (z .generators);
-    radii = new-radii .radii c a el ∙ tab-cong 6 _ (λ i. getD (tab 6 (roundedRadius gained)) i 0) radius-at;
+    carried = carrying .numbers c a el ∙ tab-cong 6 _ (λ i. getD (tab 6 (carriedAt gained)) i 0) carried-at;
+    rounded = halving ∙ tab-cong 6 _ (λ i. getD (tab 6 (roundedAt gained)) i 0) rounded-at;
     small-terms = rw rounded-terms (bounded-mono (rounded-small e w r long (bounded-mono (raw-terms .numbers) (omega arith)))
         (omega arith));
     small-centre = rounded-all-small 6 centre centre′ (raw-centre .small) centre-rounded;
     small-generators = rounded-all-small 144 vectors vectors′ (raw-vectors .small) vectors-rounded;
-    small-radii = new-radii .small;
+    small-carried = carrying .small;
+    small-rounded =
+        halves-below counts halves
+        (counts-below w centre vectors r (s .generators) counts counting (raw-terms .inside) (counts-in s ok .3)) halving;
     later-exponents = raw-terms .later-exponents;
     later-numbers = record {
       place = λ x h. ap (λ (v : List ℤ). at v x) rounded-terms
@@ -156,27 +167,28 @@ module _ (p : Step) (shaped : StepShaped p) (gains : List ℕ) (gaining : Gainin
   unfolding disturb
   as-many = images-length (wide p) s ∙ sym (images-length p s)
 
-  radius-same : (i : ℕ) → i < 6 → getD (tab 6 (roundedRadius y)) i 0 ≡ getD (tab (p .rows) (roundedRadius x)) i 0
-  unfolding roundedRadius disturb
-  radius-same i h =
-      getD-tab 6 (roundedRadius y) 0 i h
-      ∙ both
-      ∙ same-row 0 (roundedRadius x) (p .rows) 6 (λ j l m. none-rounded p (view s) j m gains) i h
+  -- numbers of the two images by coordinate, those of the step's own 0 past its rows
+  part-same : (f g : ℕ → ℕ) → ((i : ℕ) → i < 6 → f i ≡ g i) → ((i : ℕ) → p .rows ≤ i → g i ≡ 0)
+      → (i : ℕ) → i < 6 → getD (tab 6 f) i 0 ≡ getD (tab (p .rows) g) i 0
+  part-same f g same none i h = getD-tab 6 f 0 i h ∙ same i h ∙ same-row 0 g (p .rows) 6 (λ j l m. none j m) i h
+
+  carried-same : (i : ℕ) → i < 6 → carriedAt y i ≡ carriedAt x i
+  unfolding carriedAt
+  carried-same i h =
+      ap roundedUp
+      (gained-radius gains (wide p) (view s) i
+      ∙ ap₂ _+_ (same-remainder p shaped (view s) i h) (part-same gain gain (λ j l. refl) (gaining .past) i h)
+      ∙ sym (gained-radius gains p (view s) i))
     where
       gain : ℕ → ℕ
       gain j = getD gains j 0
 
-      same-gain : getD (tab 6 gain) i 0 ≡ getD (tab (p .rows) gain) i 0
-      same-gain = getD-tab 6 gain 0 i h ∙ same-row 0 gain (p .rows) 6 (λ j l m. gaining .past j m) i h
-
-      both : roundedRadius y i ≡ roundedRadius x i
-      both =
-          ap₂ roundedUp
-          (gained-radius gains (wide p) (view s) i
-          ∙ ap₂ _+_ (same-remainder p shaped (view s) i h) same-gain
-          ∙ sym (gained-radius gains p (view s) i))
-          (same-inexact y x (same-terms p shaped (view s)) (same-generators p shaped (view s)) as-many few i h
-          (same-centre p shaped (view s) i h))
+  rounded-same : (i : ℕ) → i < 6 → roundedAt y i ≡ roundedAt x i
+  unfolding roundedAt disturb
+  rounded-same i h =
+      ap halfUp
+      (same-inexact y x (same-terms p shaped (view s)) (same-generators p shaped (view s)) as-many few i h
+      (same-centre p shaped (view s) i h))
 
   pub imaged-narrow : (e₀ : List ℕ) (w₀ : List ℤ) (r : Image) (e : List ℕ) (w : List ℤ) → Imaged (wide p) gains s e₀ w₀ r e w →
       Imaged p gains s e₀ w₀ r e w
@@ -195,11 +207,15 @@ module _ (p : Step) (shaped : StepShaped p) (gains : List ℕ) (gaining : Gainin
         ∙ sym (round-vectors (y .generators))
         ∙ ap (λ (v : List ℤ). tab 144 (λ k. round (at v k))) (same-generators p shaped (view s))
         ∙ round-vectors (x .generators);
-    radii = d .radii ∙ tab-cong 6 _ _ radius-same;
+    carried = d .carried
+        ∙ tab-cong 6 _ _ (part-same (carriedAt y) (carriedAt x) carried-same (λ i l. none-carried p (view s) i l gains));
+    rounded = d .rounded
+        ∙ tab-cong 6 _ _ (part-same (roundedAt y) (roundedAt x) rounded-same (λ i l. none-rounded p (view s) i l gains));
     small-terms = d .small-terms;
     small-centre = d .small-centre;
     small-generators = d .small-generators;
-    small-radii = d .small-radii;
+    small-carried = d .small-carried;
+    small-rounded = d .small-rounded;
     later-exponents = d .later-exponents;
     later-numbers = d .later-numbers;
   }

@@ -3,10 +3,10 @@
 --     Summing       a loop that sums
 --     Rounding      rows rounded in place, and the count of inexact roundings
 --     KeptRows      rows of zeros that are left out
---     Remainder     S and the new radii
+--     Remainder     S and what is carried
 --     Gaining       what S gains from outside the step
 --     Counting      six counters to which rows are added
---     Radii         they are the definition's
+--     Radii         it is the definition's
 --     Padded        the image under the wide step is that under the step
 --     Counted       rounding and counting in wide form are the definition's
 --     Imaged        what `of_step` promises, from what its stages do

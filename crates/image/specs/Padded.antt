@@ -6,7 +6,7 @@ use native.Mathlib.Omega.{arith}
 use lib.IntN.{ℤ, pos}
 use lib.ListN.{getD}
 use Rattle.whole.specs.Tab.{tab, tab-cong, getD-tab}
-use Rattle.model.specs.Set.{Term, Zonotope, at, radius}
+use Rattle.model.specs.Set.{Term, Zonotope, at}
 use Rattle.model.specs.Step.{Step, own, squared, paired, pairs, raw, rawCentre, rawLinear, rawSquare, rawPair, remainder}
 use Rattle.forms.specs.Wide.{wide, StepShaped}
 use Rattle.forms.specs.Same.{wide-centre, wide-term, wide-square, wide-pair, wide-remainder}
@@ -76,8 +76,7 @@ module _ (p : Step) (shaped : StepShaped p) (z : Zonotope) where
       getD-tab 6 (rawCentre W z) (pos 0) i h
       ∙ same-number (pos 0) (rawCentre W z) (rawCentre p z) (λ j l. wide-centre p shaped j l z) (λ j l. centre-none p shaped j l z) i h
 
-  pub same-remainder : (i : ℕ) → i < 6 → radius (raw W z) i ≡ radius (raw p z) i
-  unfolding raw
+  pub same-remainder : (i : ℕ) → i < 6 → getD (tab 6 (remainder W z)) i 0 ≡ getD (tab (p .rows) (remainder p z)) i 0
   same-remainder i h =
       getD-tab 6 (remainder W z) 0 i h
       ∙ same-number 0 (remainder W z) (remainder p z) (λ j l. wide-remainder p shaped j l z) (λ j l. remainder-none p shaped j l z) i h

@@ -1,4 +1,4 @@
--- S and the new radii, in the shapes in which the code computes them, and how large they are.
+-- S and what of it is carried on, in the shapes in which the code computes them, and how large they are.
 use mathlib.Core.List.{List}
 use mathlib.Core.Path.{_≡_, refl, _∙_, ap₂}
 use Prim.Native.Nat.{ℕ, zero, suc, _+_, _*_, _/_, _<_, _≤_}
@@ -45,21 +45,21 @@ crossRow q d r i j = uptoℕ (rowCell q d r i j) 6
 abbrev pub crossSum : List ℤ → List ℕ → List ℕ → ℕ → ℕ
 crossSum q d r i = uptoℕ (crossRow q d r i) 6
 
--- the new radius, from S and the count of inexact roundings
-abbrev pub roundedUp : ℕ → ℕ → ℕ
-roundedUp s count = (s + 16777215) / scale + (count + 1) / 2
+-- in whole units, rounded up
+abbrev pub roundedUp : ℕ → ℕ
+roundedUp s = (s + 16777215) / scale
 
--- that of coordinate i, where S is a sum of lines, a sum of cells and what it gains
-abbrev pub newRadius : List ℤ → List ℤ → List ℕ → List ℕ → List ℕ → List ℕ → List ℕ → ℕ → ℕ
-newRadius lines q d r w gains counts i = roundedUp (slopeSum lines w i + crossSum q d r i + getD gains i 0) (getD counts i 0)
+-- what coordinate i carries on, where S is a sum of lines, a sum of cells and what it gains
+abbrev pub carriedFrom : List ℤ → List ℤ → List ℕ → List ℕ → List ℕ → List ℕ → ℕ → ℕ
+carriedFrom lines q d r w gains i = roundedUp (slopeSum lines w i + crossSum q d r i + getD gains i 0)
 
--- no rounded number and no new radius is larger
+-- no rounded number and no part of a new radius is larger
 abbrev pub imageLimit : ℕ
 imageLimit = 1099511627776
 
 -- ---- sizes
-pub rounded-up-small : (n count : ℕ) → n ≤ 9223372036854775808 → count ≤ 4294967296 → roundedUp n count ≤ imageLimit
-rounded-up-small n count h l = omega arith
+pub rounded-up-small : (n : ℕ) → n ≤ 9223372036854775808 → roundedUp n ≤ imageLimit
+rounded-up-small n h = omega arith
 
 pub zeros-at : (n x : ℕ) → _≡_ {A = ℕ} (getD (replicate n 0) x 0) 0
 zeros-at zero x = refl

@@ -2,7 +2,7 @@
 use mathlib.Core.Bool.{Bool, true, false, cond}
 use mathlib.Core.List.{List, map}
 use mathlib.Core.Path.{_≡_, refl, sym, _∙_, ap}
-use Prim.Native.Nat.{ℕ, _+_, _*_, _<_, _≤_}
+use Prim.Native.Nat.{ℕ, _+_, _*_, _/_, _<_, _≤_}
 use native.Mathlib.Omega.{arith}
 use lib.Dec.{T}
 use lib.IntN.{ℤ, pos, natAbs, _-ℤ_, _*ℤ_}
@@ -27,6 +27,10 @@ inexactIn w rows i = uptoℕ (λ t. inexact (rowOf w t i)) rows
 -- of the centre, the terms' rows and the generators
 unfoldable pub inexactOf : List ℤ → ℕ → List ℤ → List ℤ → ℕ → ℕ → ℕ
 inexactOf w rows centre vectors generators i = inexactIn centre 1 i + inexactIn w rows i + inexactIn vectors generators i
+
+-- half of a count, rounded up
+abbrev pub halfUp : ℕ → ℕ
+halfUp count = (count + 1) / 2
 
 -- a term with its coefficients rounded
 abbrev pub roundTerm : Term → Term

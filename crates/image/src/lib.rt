@@ -16,12 +16,13 @@ pub mod rounding;
 
 use zonotope::PolyZonotope;
 
-// An image: its terms stand in the first rows of the work slices, the rest here.
+// An image: its terms stand in the first rows of the work slices, the rest here. Its radii are what is carried and what rounding added.
 pub struct Image {
     pub rows: usize,
     pub centre: [i64; 6],
     pub generators: [i64; 144],
-    pub radii: [u64; 6],
+    pub carried: [u64; 6],
+    pub rounded: [u64; 6],
 }
 
 // The image of s under the step x' = c + Ax + Q(x, x) to m coordinates from n, where S of each coordinate gains a number.
@@ -71,7 +72,8 @@ fn of_wide_step(
     let mut generators = raw::parts::generators(&lines, s, m);
     let g = s.generators;
     let counts = rounding::counts(w, rows, &centre, &generators, g);
-    let radii = remainder::radii(&lines, q, s, gains, &counts);
+    let rounded = rounding::halves(&counts);
+    let carried = remainder::carried(&lines, q, s, gains);
     rounding::round_first(w, rows * 6);
     rounding::round_first(&mut centre, 6);
     rounding::round_first(&mut generators, 144);
@@ -79,6 +81,7 @@ fn of_wide_step(
         rows,
         centre,
         generators,
-        radii,
+        carried,
+        rounded,
     }
 }

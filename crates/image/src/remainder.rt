@@ -1,4 +1,4 @@
-// What a set's independent part, its generators and radii, adds to each coordinate's radius: S of document 01, and what it gains.
+// What a set's independent part, its generators and radii, carries on to each coordinate's radius: S of document 01, and what it gains.
 ghost use mathlib.Core.Path.{_≡_};
 ghost use Prim.Native.Nat.{ℕ, _+_, _*_, _≤_, _<_};
 ghost use lib.IntN.{natAbs};
@@ -8,33 +8,26 @@ ghost use Rattle.rows.specs.Rows.{Small};
 ghost use Rattle.forms.specs.Numbers.{tableLimit};
 ghost use Rattle.raw.specs.Accepted.{InSpan};
 ghost use Rattle.raw.specs.Limits.{rowSizes};
-ghost use Rattle.image.specs.Remainder.{Below, spread, cellOf, slopeSum, crossRow, crossSum, roundedUp, newRadius};
+ghost use Rattle.image.specs.Remainder.{Below, spread, cellOf, slopeSum, crossRow, crossSum, roundedUp, carriedFrom};
 ghost use Rattle.image.specs.Gaining.{gainLimit};
-ghost use Rattle.image.specs.Radii.{NewRadii};
+ghost use Rattle.image.specs.Radii.{Carried};
 use zonotope::PolyZonotope;
+use zonotope::parts;
 
-// The new radii of a step on s, from what S gains and the counts of inexact roundings.
-pub fn radii(
-    lines: &[i64; 36],
-    q: &[i32; 216],
-    s: PolyZonotope,
-    gains: &[u64; 6],
-    counts: &[u64; 6],
-) -> [u64; 6]
-    requires { ⌜ Small tableLimit (now lines) × Small 32768 (now q) × InSpan s × Below gainLimit (now gains)
-        × Below 4294967296 (now counts) ⌝ }
-    ensures { λ r. ⌜ NewRadii (now (lines .entry)) (now (q .entry)) s (now (gains .entry)) (now (counts .entry)) r ⌝ }
+// What a step on s carries on: S with what it gains, of each coordinate, in whole units.
+pub fn carried(lines: &[i64; 36], q: &[i32; 216], s: PolyZonotope, gains: &[u64; 6]) -> [u64; 6]
+    requires { ⌜ Small tableLimit (now lines) × Small 32768 (now q) × InSpan s × Below gainLimit (now gains) ⌝ }
+    ensures { λ r. ⌜ Carried (now (lines .entry)) (now (q .entry)) s (now (gains .entry)) r ⌝ }
 {
     let coefficients = s.coefficients;
     let vectors = s.vectors;
-    let radii = s.radii;
     let h = s.terms;
     let g = s.generators;
-    let none = [0u32; 6];
+    let w = parts::totals(s.radii);
+    let none = [0u64; 6];
     let d = spreads(&coefficients, h, &none);
-    let w = spreads(&coefficients, 0, &radii);
-    let r = spreads(&vectors, g, &radii);
-    radii_from(lines, q, &d, &r, &w, gains, counts)
+    let r = spreads(&vectors, g, &w);
+    carried_from(lines, q, &d, &r, &w, gains)
 }
 
 // ---- D, r and w
@@ -51,18 +44,19 @@ fn size_sum(xs: &[i32], rows: usize, i: usize) -> u64
 }
 
 // The same, and a radius.
-fn spread_at(xs: &[i32], rows: usize, radii: &[u32; 6], i: usize) -> u64
-    requires { ⌜ (rows ≤ 40) × (i < 6) × (rows * 6 ≤ length (now xs)) × (rowSizes (now xs) rows i ≤ 1048576) ⌝ }
+fn spread_at(xs: &[i32], rows: usize, radii: &[u64; 6], i: usize) -> u64
+    requires { ⌜ (rows ≤ 40) × (i < 6) × (rows * 6 ≤ length (now xs)) × (rowSizes (now xs) rows i ≤ 1048576)
+        × (getD (now radii) i 0 ≤ 1048576) ⌝ }
     ensures { λ r. ⌜ r ≡ rowSizes (now (xs .entry)) rows i + getD (now (radii .entry)) i 0 ⌝ }
 {
     let n = size_sum(xs, rows, i);
-    let y = whole::widen_u32(radii[i]);
-    n + y
+    n + radii[i]
 }
 
 // The sizes of each coordinate over the first rows, with radii.
-pub fn spreads(xs: &[i32], rows: usize, radii: &[u32; 6]) -> [u64; 6]
-    requires { ⌜ (rows ≤ 40) × (rows * 6 ≤ length (now xs)) × ((i : ℕ) → i < 6 → rowSizes (now xs) rows i ≤ 1048576) ⌝ }
+pub fn spreads(xs: &[i32], rows: usize, radii: &[u64; 6]) -> [u64; 6]
+    requires { ⌜ (rows ≤ 40) × (rows * 6 ≤ length (now xs)) × ((i : ℕ) → i < 6 → rowSizes (now xs) rows i ≤ 1048576)
+        × Below 1048576 (now radii) ⌝ }
     ensures { λ r. ⌜ r ≡ tab 6 (spread (now (xs .entry)) rows (now (radii .entry))) ⌝ }
 {
     let mut out = [0u64; 6];
@@ -133,54 +127,52 @@ fn cross_sum(q: &[i32; 216], i: usize, d: &[u64; 6], r: &[u64; 6]) -> u64
     sum
 }
 
-// ---- radii
-// S with what it gains, together rounded up to whole units, and half of the count rounded up.
-fn rounded_up(s: u64, gain: u64, count: u64) -> u64
-    requires { ⌜ (s + gain ≤ 9223372036854775808) × (count ≤ 4294967296) ⌝ }
-    ensures { λ r. ⌜ r ≡ roundedUp (s + gain) count ⌝ }
+// ---- what is carried
+// S with what it gains, together rounded up to whole units.
+fn rounded_up(s: u64, gain: u64) -> u64
+    requires { ⌜ s + gain ≤ 9223372036854775808 ⌝ }
+    ensures { λ r. ⌜ r ≡ roundedUp (s + gain) ⌝ }
 {
-    (s + gain + 16777215) / 16777216 + (count + 1) / 2
+    (s + gain + 16777215) / 16777216
 }
 
-// The new radius of coordinate i.
-fn radius_at(
+// That of coordinate i.
+fn carried_at(
     lines: &[i64; 36],
     q: &[i32; 216],
     d: &[u64; 6],
     r: &[u64; 6],
     w: &[u64; 6],
     gains: &[u64; 6],
-    counts: &[u64; 6],
     i: usize,
 ) -> u64
     requires { ⌜ (i < 6) × Small tableLimit (now lines) × Small 32768 (now q) × Below 1048576 (now d) × Below 1048576 (now r)
-        × Below 1048576 (now w) × Below gainLimit (now gains) × Below 4294967296 (now counts) ⌝ }
-    ensures { λ s. ⌜ s ≡ newRadius (now (lines .entry)) (now (q .entry)) (now (d .entry)) (now (r .entry)) (now (w .entry))
-        (now (gains .entry)) (now (counts .entry)) i ⌝ }
+        × Below 1048576 (now w) × Below gainLimit (now gains) ⌝ }
+    ensures { λ s. ⌜ s ≡ carriedFrom (now (lines .entry)) (now (q .entry)) (now (d .entry)) (now (r .entry)) (now (w .entry))
+        (now (gains .entry)) i ⌝ }
 {
     let x = slope_sum(lines, i, w);
     let y = cross_sum(q, i, d, r);
-    rounded_up(x + y, gains[i], counts[i])
+    rounded_up(x + y, gains[i])
 }
 
-// The new radius of each coordinate.
-fn radii_from(
+// Of each coordinate.
+fn carried_from(
     lines: &[i64; 36],
     q: &[i32; 216],
     d: &[u64; 6],
     r: &[u64; 6],
     w: &[u64; 6],
     gains: &[u64; 6],
-    counts: &[u64; 6],
 ) -> [u64; 6]
     requires { ⌜ Small tableLimit (now lines) × Small 32768 (now q) × Below 1048576 (now d) × Below 1048576 (now r)
-        × Below 1048576 (now w) × Below gainLimit (now gains) × Below 4294967296 (now counts) ⌝ }
-    ensures { λ s. ⌜ s ≡ tab 6 (newRadius (now (lines .entry)) (now (q .entry)) (now (d .entry)) (now (r .entry)) (now (w .entry))
-        (now (gains .entry)) (now (counts .entry))) ⌝ }
+        × Below 1048576 (now w) × Below gainLimit (now gains) ⌝ }
+    ensures { λ s. ⌜ s ≡ tab 6 (carriedFrom (now (lines .entry)) (now (q .entry)) (now (d .entry)) (now (r .entry)) (now (w .entry))
+        (now (gains .entry))) ⌝ }
 {
     let mut out = [0u64; 6];
     for x in 0..6 {
-        let y = radius_at(lines, q, d, r, w, gains, counts, x);
+        let y = carried_at(lines, q, d, r, w, gains, x);
         out[x] = y;
     }
     out

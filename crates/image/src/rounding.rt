@@ -1,13 +1,13 @@
 // Raw numbers rounded in place, and the inexact roundings counted.
 ghost use mathlib.Core.Path.{_≡_};
 ghost use Prim.Native.Nat.{ℕ, _+_, _*_, _≤_, _<_};
-ghost use lib.ListN.{length};
+ghost use lib.ListN.{length, getD};
 ghost use Rattle.whole.specs.Round.{round, inexact};
 ghost use Rattle.whole.specs.Tab.{tab};
 ghost use Rattle.whole.specs.Write.{write};
 ghost use Rattle.model.specs.Set.{at};
 ghost use Rattle.forms.specs.Tables.{rowOf};
-ghost use Rattle.image.specs.Rounding.{inexactIn, inexactOf};
+ghost use Rattle.image.specs.Rounding.{inexactIn, inexactOf, halfUp};
 ghost use Rattle.image.specs.Remainder.{Below};
 ghost use Rattle.image.specs.Counting.{grown};
 
@@ -27,6 +27,24 @@ pub fn counts(
     add_rows(&mut out, w, rows);
     add_rows(&mut out, vectors, generators);
     out
+}
+
+// What rounding adds to each coordinate's radius: half of its count, rounded up.
+pub fn halves(counts: &[u64; 6]) -> [u64; 6]
+    ensures { λ r. ⌜ r ≡ tab 6 (λ i. halfUp (getD (now (counts .entry)) i 0)) ⌝ }
+{
+    let mut halved = [0u64; 6];
+    for x in 0..6 {
+        let y = half_up(counts[x]);
+        halved[x] = y;
+    }
+    halved
+}
+
+fn half_up(count: u64) -> u64
+    ensures { λ r. ⌜ r ≡ halfUp count ⌝ }
+{
+    count / 2 + count % 2
 }
 
 // The first n numbers, rounded in place.

@@ -15,9 +15,9 @@ use Rattle.whole.specs.Tests.{none-at}
 use Rattle.model.proofs.Tests.{or-false}
 use Rattle.rows.specs.Rows.{Small}
 use Rattle.model.specs.Limits.{recordIdentifiers}
-use Rattle.model.specs.Set.{at, radius, termSizes, generatorSizes, span}
+use Rattle.model.specs.Set.{at, radius, radiusOf, termSizes, generatorSizes, span}
 use Rattle.model.specs.Valid.{badRange, tooWide}
-use Rattle.zonotope.specs.Record.{view}
+use Rattle.zonotope.specs.Record.{view, firsts}
 use Rattle.zonotope.specs.declared.PolyZonotope.{PolyZonotope}
 use Rattle.forms.specs.Dot.{upto-zero}
 use Rattle.forms.specs.Tables.{rowOf}
@@ -64,6 +64,13 @@ module _ (s : PolyZonotope) (ok : InSpan s) where
   unfolding tooWide view
   span-in j l = ltb-false 1048576 (span (view s) j) (none-at (λ i. ltb 1048576 (span (view s) i)) (s .dimension) (λ i. i) (ok .narrow) j l)
 
+  radius-out : (j : ℕ) → s .dimension ≤ j → radius (view s) j ≡ 0
+  unfolding view radiusOf
+  radius-out j l =
+      let past : (xs : List ℕ) → getD (firsts (s .dimension) xs) j 0 ≡ 0 =
+      λ xs. getD-tab-past (s .dimension) (λ i. getD xs i 0) 0 j l in
+      ap₂ _+_ (ap₂ _+_ (ap₂ _+_ (past (s .radii .carried)) (past (s .radii .rounded))) (past (s .radii .folded))) (past (s .radii .given))
+
   span-out : (j : ℕ) → s .dimension ≤ j → span (view s) j ≡ 0
   unfolding span termSizes generatorSizes view
   span-out j l =
@@ -74,7 +81,7 @@ module _ (s : PolyZonotope) (ok : InSpan s) where
       ∙ upto-zero monoidℕ _ (s .terms) (λ t _. ap natAbs (getD-tab-past (s .dimension) (rowOf (s .coefficients) t) (pos 0) j l))))
       (sum-tab monoidℕ (λ g. natAbs (at g j)) (s .generators) (generatorAt s)
       ∙ upto-zero monoidℕ _ (s .generators) (λ t _. ap natAbs (getD-tab-past (s .dimension) (rowOf (s .vectors) t) (pos 0) j l))))
-      (getD-tab-past (s .dimension) (λ i. getD (s .radii) i 0) 0 j l)
+      (radius-out j l)
 
   pub span-small : (j : ℕ) → span (view s) j ≤ 1048576
   span-small j = go (decLt j (s .dimension))

@@ -1,7 +1,7 @@
 -- The unused places of a record hold 0, so its rows of 12 exponents and of 6 numbers are those of its set, continued by zeros.
 use mathlib.Core.Bool.{Bool, false, not, _||_}
 use mathlib.Core.List.{List}
-use mathlib.Core.Path.{_≡_, sym, _∙_}
+use mathlib.Core.Path.{_≡_, sym, _∙_, ap₂}
 use Prim.Native.Nat.{ℕ, _+_, _*_, _/_, _%_, _<_, _≤_}
 use native.Mathlib.Decide.{decLt}
 use native.Mathlib.Omega.{arith}
@@ -13,11 +13,11 @@ use Rattle.whole.specs.Size.{abs-zero}
 use Rattle.whole.specs.Tab.{tab, length-tab, getD-tab, getD-tab-past}
 use Rattle.whole.specs.Tests.{none-at}
 use Rattle.model.proofs.Tests.{or-false}
-use Rattle.model.specs.Set.{Term, at, radius}
+use Rattle.model.specs.Set.{Term, at, radius, radiusOf}
 use Rattle.model.specs.Valid.{badCounts}
 use Rattle.arrays.specs.Rows.{row}
 use Rattle.arrays.specs.Spare.{spareℕ, spareℤ, inRows}
-use Rattle.zonotope.specs.Record.{view, spare}
+use Rattle.zonotope.specs.Record.{view, spare, partsOf, totalsOf, firsts, spareParts}
 use Rattle.zonotope.specs.declared.PolyZonotope.{PolyZonotope}
 use Rattle.forms.specs.Tables.{rowOf}
 use Rattle.raw.specs.Tests.{free, no-row, no-column}
@@ -81,7 +81,7 @@ module _ (s : PolyZonotope) (ok : InSpan s) where
       × (spareℕ (s .exponents) 480 (inRows 12 (s .terms) (s .factors)) ≡ false)
       × (spareℤ (s .coefficients) 240 (inRows 6 (s .terms) (s .dimension)) ≡ false)
       × (spareℤ (s .vectors) 144 (inRows 6 (s .generators) (s .dimension)) ≡ false)
-      × (spareℕ (s .radii) 6 (λ i. ltb i (s .dimension)) ≡ false)
+      × (spareParts (s .radii) (s .dimension) ≡ false)
   unfolding spare
   spared =
       let identifiers = spareℕ (s .identifiers) 12 (λ i. ltb i (s .factors)) in
@@ -89,7 +89,7 @@ module _ (s : PolyZonotope) (ok : InSpan s) where
       let exponents = spareℕ (s .exponents) 480 (inRows 12 (s .terms) (s .factors)) in
       let coefficients = spareℤ (s .coefficients) 240 (inRows 6 (s .terms) (s .dimension)) in
       let vectors = spareℤ (s .vectors) 144 (inRows 6 (s .generators) (s .dimension)) in
-      let radii = spareℕ (s .radii) 6 (λ i. ltb i (s .dimension)) in
+      let radii = spareParts (s .radii) (s .dimension) in
       let a = or-false (identifiers || centre || exponents || coefficients || vectors) radii (ok .unused) in
       let b = or-false (identifiers || centre || exponents || coefficients) vectors (a .0) in
       let c = or-false (identifiers || centre || exponents) coefficients (b .0) in
@@ -117,11 +117,28 @@ module _ (s : PolyZonotope) (ok : InSpan s) where
       same-row (pos 0) (at (s .centre)) (s .dimension) 6
       (λ i b h. unusedℤ (s .centre) 6 (λ k. ltb k (s .dimension)) (spared .0) i b (le-ltb i (s .dimension) h)) j l
 
-  pub radius-row : (j : ℕ) → j < 6 → getD (s .radii) j 0 ≡ radius (view s) j
-  unfolding view
+  -- of a part of the radii
+  abbrev sparePart : List ℕ → Bool
+  sparePart xs = spareℕ xs 6 (λ i. ltb i (s .dimension))
+
+  part-row : (xs : List ℕ) → sparePart xs ≡ false → (j : ℕ) → j < 6 → getD xs j 0 ≡ getD (firsts (s .dimension) xs) j 0
+  part-row xs e j l =
+      same-row 0 (λ i. getD xs i 0) (s .dimension) 6
+      (λ i b h. unusedℕ xs 6 (λ k. ltb k (s .dimension)) e i b (le-ltb i (s .dimension) h)) j l
+
+  pub radius-row : (j : ℕ) → j < 6 → getD (totalsOf (s .radii)) j 0 ≡ radius (view s) j
+  unfolding view radiusOf
   radius-row j l =
-      same-row 0 (λ i. getD (s .radii) i 0) (s .dimension) 6
-      (λ i b h. unusedℕ (s .radii) 6 (λ k. ltb k (s .dimension)) (spared .4) i b (le-ltb i (s .dimension) h)) j l
+      let carried = s .radii .carried in
+      let rounded = s .radii .rounded in
+      let folded = s .radii .folded in
+      let given = s .radii .given in
+      let a = or-false (sparePart carried || sparePart rounded || sparePart folded) (sparePart given) (spared .4) in
+      let b = or-false (sparePart carried || sparePart rounded) (sparePart folded) (a .0) in
+      let c = or-false (sparePart carried) (sparePart rounded) (b .0) in
+      getD-tab 6 (radiusOf (partsOf (s .radii))) 0 j l
+      ∙ ap₂ _+_ (ap₂ _+_ (ap₂ _+_ (part-row carried (c .0) j l) (part-row rounded (c .1) j l)) (part-row folded (b .1) j l))
+      (part-row given (a .1) j l)
 
   pub exponent-row : (t : ℕ) → t < 40 → (j : ℕ) → j < 12 → getD (s .exponents) (t * 12 + j) 0 ≡ getD (termAt s t .exponents) j 0
   exponent-row t ht j l =

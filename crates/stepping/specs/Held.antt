@@ -1,7 +1,7 @@
 -- The rounded image of an accepted set in rows: a set in wide form, with numbers for which nothing overflows.
-use mathlib.Core.Path.{_≡_, refl, sym, ap, ap₂, _∙_}
+use mathlib.Core.Path.{_≡_, refl, sym, ap, ap₂, subst, _∙_}
 use mathlib.Core.List.{List, [], map}
-use Prim.Native.Nat.{ℕ, _*_, _-_, _≤_}
+use Prim.Native.Nat.{ℕ, _*_, _-_, _^_, _≤_}
 use native.Mathlib.Omega.{arith}
 use lib.ListN.{length, getD, length-map}
 use lib.IntN.{ℤ, pos}
@@ -16,7 +16,9 @@ use Rattle.model.specs.Ranged.{gainingStep}
 use Rattle.model.proofs.StepShape.{raw-ready, rounded-ready}
 use Rattle.model.proofs.SumShape.{disturbed-ready}
 use Rattle.zonotope.specs.declared.PolyZonotope.{PolyZonotope}
-use Rattle.zonotope.specs.Record.{view}
+use Rattle.zonotope.specs.declared.WideRadii.{WideRadii}
+use Rattle.zonotope.specs.Record.{widePartsOf, anew, view}
+use Rattle.zonotope.specs.View.{anew-rounded}
 use Rattle.zonotope.specs.Counts.{InLimits, in-limits}
 use Rattle.rows.specs.Rows.{numberRow, rowsOf}
 use Rattle.raw.specs.Accepted as Raw
@@ -30,23 +32,23 @@ use Rattle.image.specs.Imaged.{Imaged}
 use Rattle.image.specs.Remainder.{imageLimit}
 use Rattle.finish.specs.declared.Unfinished.{Unfinished}
 use Rattle.finish.specs.declared.Finished.{Finished}
-use Rattle.finish.specs.Held.{held, finishedAs}
+use Rattle.finish.specs.Held.{PartsUnder, held, finishedAs}
 use Rattle.finish.specs.Wide.{wide, wideVector}
 use Rattle.finish.specs.WideFinish.{Narrow}
 use Rattle.answers.specs.Accepted.{AcceptedRecord, ready}
-use Rattle.answers.specs.Finishing.{Finishable, part, part-length, rows-part, part-small, finished-held}
+use Rattle.answers.specs.Finishing.{anew-under, Finishable, part, part-length, rows-part, part-small, finished-held}
 use Rattle.rational.specs.Sum.{All-imp}
 use Rattle.stepping.specs.Shortened.{withTerms, Shortened, shortened, finish-shortened}
 use Rattle.stepping.specs.Work.{workNumbers, workExponents}
 
 -- the image without its terms and generators
-abbrev pub unfinishedImage : Step → PolyZonotope → Image → Unfinished
-unfinishedImage p s r = record {
+abbrev pub unfinishedImage : Step → PolyZonotope → Image → WideRadii → Unfinished
+unfinishedImage p s r radii = record {
   dimension = p .rows;
   factors = s .factors;
   identifiers = s .identifiers;
   centre = r .centre;
-  radii = r .radii;
+  radii = radii;
 }
 
 -- as far as the image needs it
@@ -64,6 +66,12 @@ vector-rows gs few =
     tab-cong (length gs) _ (λ t. wideVector (getD gs t [])) (λ t h. tab-row (pos 0) 6 144 t (λ q i. at (getD gs q []) i) (omega arith))
     ∙ sym (map-tab wideVector (length gs) (λ t. getD gs t []))
     ∙ ap (map wideVector) (tab-getD (length gs) gs [] refl)
+
+-- an image's generators fill their array
+pub image-vectors : {p : Step} {gains : List ℕ} {s : PolyZonotope} {e₀ e : List ℕ} {w₀ w : List ℤ} {r : Image} → Imaged p gains s e₀ w₀ r
+    e w
+    → length (r .generators) ≡ 144
+image-vectors d = ap length (d .generators) ∙ length-tab 144 _
 
 module _ (p : Step) (gains : List ℕ) (s : PolyZonotope) (a : AcceptedRecord s) (ok : StepAccepted p) where
   abbrev image : Zonotope
@@ -91,7 +99,7 @@ module _ (p : Step) (gains : List ℕ) (s : PolyZonotope) (a : AcceptedRecord s)
 
   -- ---- in the rows that `of_step` leaves
   module _ {e₀ e : List ℕ} {w₀ w : List ℤ} {r : Image} (d : Imaged p gains s e₀ w₀ r e w) (le : 10320 ≤ length e)
-      (lw : 5160 ≤ length w) where
+      (lw : 5160 ≤ length w) {radii : WideRadii} (made : radii ≡ anew (r .carried) (r .rounded)) where
     abbrev rows : ℕ
     rows = r .rows
 
@@ -116,7 +124,7 @@ module _ (p : Step) (gains : List ℕ) (s : PolyZonotope) (a : AcceptedRecord s)
       factors = image-narrow .factors;
     }
 
-    image-wide : held (unfinishedImage p s r) (part (rows * 12) e) (part (rows * 6) w) rows (r .generators) (s .generators)
+    image-wide : held (unfinishedImage p s r radii) (part (rows * 12) e) (part (rows * 6) w) rows (r .generators) (s .generators)
         ≡ wide shortImage
     unfolding wide rounded disturb raw view
     image-wide = λ k. record {
@@ -125,7 +133,7 @@ module _ (p : Step) (gains : List ℕ) (s : PolyZonotope) (a : AcceptedRecord s)
       centre = d .centre k;
       terms = (rows-part e w rows ∙ sym (short .held)) k;
       generators = generators-wide k;
-      radii = d .radii k;
+      radii = (ap widePartsOf made ∙ anew-rounded (gainedImage gains p (view s)) (d .carried) (d .rounded)) k;
     }
       where
         generators-wide : tab (s .generators) (numberRow (r .generators)) ≡ map wideVector (image .generators)
@@ -134,12 +142,13 @@ module _ (p : Step) (gains : List ℕ) (s : PolyZonotope) (a : AcceptedRecord s)
             ∙ vector-rows (image .generators) (omega (arith, generators-many, few .generators))
 
     -- what finishing the rows asks
-    pub image-finishable : Finishable (unfinishedImage p s r) (part (rows * 12) e) (part (rows * 6) w) rows (r .generators) (s .generators)
+    pub image-finishable : Finishable (unfinishedImage p s r radii) (part (rows * 12) e) (part (rows * 6) w) rows (r .generators)
+        (s .generators)
     image-finishable =
         let inside = d .inside in
         let exponents : length (part (rows * 12) e) ≡ rows * 12 = part-length (rows * 12) e (omega arith) in
         let numbers : length (part (rows * 6) w) ≡ rows * 6 = part-length (rows * 6) w (omega arith) in
-        let vectors : length (r .generators) ≡ 144 = ap length (d .generators) ∙ length-tab 144 _ in
+        let vectors = image-vectors d in
         record {
           rows-few = inside;
           exponents-long = omega arith;
@@ -150,13 +159,14 @@ module _ (p : Step) (gains : List ℕ) (s : PolyZonotope) (a : AcceptedRecord s)
           numbers-small = part-small imageLimit (rows * 6) w (omega arith) (d .small-terms .bounded);
           generators-small = d .small-generators;
           centre-small = d .small-centre;
-          radii-small = record { under = λ i. d .small-radii .below i };
+          radii-small = subst (PartsUnder (2 ^ 40)) (sym made)
+              (anew-under (r .carried) (r .rounded) (λ i. d .small-carried .below i) (λ i. d .small-rounded .below i));
           widened = record { source = shortImage; is = image-wide; narrow = short-narrow };
         }
 
     -- finished, they are the step whose remainders gain these numbers
     pub image-step : {f : Finished} → f ≡ finishedAs (finish standardWeights maxTerms maxGenerators
-        (held (unfinishedImage p s r) (part (rows * 12) e) (part (rows * 6) w) rows (r .generators) (s .generators)))
+        (held (unfinishedImage p s r radii) (part (rows * 12) e) (part (rows * 6) w) rows (r .generators) (s .generators)))
         → f ≡ finishedAs (gainingStep standardWeights (λ i. getD gains i 0) p (view s))
     unfolding gainingStep
     image-step q =

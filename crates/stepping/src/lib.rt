@@ -6,7 +6,7 @@ ghost use lib.IntN.{pos};
 ghost use lib.ListN.{length, getD};
 ghost use Rattle.model.specs.Limits.{standardWeights};
 ghost use Rattle.model.specs.Ranged.{gainingStep};
-ghost use Rattle.zonotope.specs.Record.{view};
+ghost use Rattle.zonotope.specs.Record.{anew, view};
 ghost use Rattle.raw.specs.Append.{KeptFrom};
 ghost use Rattle.image.specs.StepAccepted.{StepAccepted, stepOf};
 ghost use Rattle.image.specs.Gaining.{Gaining};
@@ -15,7 +15,9 @@ ghost use Rattle.answers.specs.Accepted.{AcceptedRecord};
 ghost use Rattle.stepping.specs.Work.{workNumbers, workExponents};
 use finish::Finished;
 use finish::Unfinished;
+use image::Image;
 use zonotope::PolyZonotope;
+use zonotope::WideRadii;
 
 pub mod arguments;
 pub mod work;
@@ -48,7 +50,7 @@ pub fn image_finished(
     let rows = image.rows;
     let identifiers = s.identifiers;
     let centre = image.centre;
-    let radii = image.radii;
+    let radii = radii_of(image);
     let u = Unfinished {
         dimension: m,
         factors: s.factors,
@@ -67,4 +69,13 @@ pub fn image_finished(
         zonotope::MAX_TERMS,
         zonotope::MAX_GENERATORS,
     )
+}
+
+// The radii of an image before it is finished.
+fn radii_of(image: Image) -> WideRadii
+    ensures { λ r. ⌜ r ≡ anew (image .carried) (image .rounded) ⌝ }
+{
+    let carried = image.carried;
+    let rounded = image.rounded;
+    zonotope::parts::anew(carried, rounded)
 }

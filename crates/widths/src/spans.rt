@@ -8,6 +8,7 @@ ghost use Rattle.raw.specs.Accepted.{InSpan};
 ghost use Rattle.image.specs.Remainder.{Below};
 ghost use Rattle.widths.specs.Spanning.{spanSum};
 use zonotope::PolyZonotope;
+use zonotope::parts;
 
 // Of each coordinate: the sizes of the centre, of the terms and of the generators, and the radius.
 pub fn of_set(s: PolyZonotope) -> [u64; 6]
@@ -17,10 +18,10 @@ pub fn of_set(s: PolyZonotope) -> [u64; 6]
     let centre = s.centre;
     let coefficients = s.coefficients;
     let vectors = s.vectors;
-    let radii = s.radii;
     let h = s.terms;
     let g = s.generators;
-    let none = [0u32; 6];
+    let radii = parts::totals(s.radii);
+    let none = [0u64; 6];
     let d = image::remainder::spreads(&coefficients, h, &none);
     let r = image::remainder::spreads(&vectors, g, &radii);
     spans_from(&centre, &d, &r)

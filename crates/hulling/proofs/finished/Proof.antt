@@ -3,6 +3,9 @@ use Rattle.hulling.specs.HullRows.{hull-finishable, hull-as}
 use Rattle.answers.specs.Finishing.{zeros-small}
 use Rattle.summing.specs.Summand.{for-sum}
 use native.Mathlib.Omega.{arith}
+use mathlib.Core.Path.{_≡_, sym, ap, _∙_}
+use lib.ListN.{length}
+use Rattle.whole.specs.Tab.{length-tab}
 use borrow.Author.Needs.{needs}
 use Rattle.hulling.proofs.finished.Statement.{statement}
 use Rattle.hulling.proofs.finished.Tie as tie
@@ -13,6 +16,10 @@ begun b = b .before .before .before
 
 abbrev blend-of : tie.After-blend-radii → tie.After-blend
 blend-of r = r .before .before .before .before .before .before .before .before .before
+
+-- the blend's centre fills its array
+centre-long : (b : tie.After-blend) → length (b .blend .result) ≡ 6
+centre-long b = ap length (b .blend .ensures .centre-is 0) ∙ length-tab 6 _
 
 slice-aggregate-blend : tie.Need-slice-aggregate-blend
 slice-aggregate-blend c = search needs
@@ -56,13 +63,13 @@ round-first-requires : tie.Need-round-first-requires
 round-first-requires c κs = omega arith
 
 slice-aggregate-round-first-2 : tie.Need-slice-aggregate-round-first-2
-slice-aggregate-round-first-2 c = search needs
+slice-aggregate-round-first-2 c = sym (centre-long (blend-of (c .before .before .before .before)))
 
 round-first-requires-2 : tie.Need-round-first-requires-2
-round-first-requires-2 c κs = search needs
+round-first-requires-2 c κs = omega (arith, centre-long (blend-of (c .before .before .before .before)))
 
 with-next-requires : tie.Need-with-next-requires
-with-next-requires c κs = search needs
+with-next-requires c κs = begun (blend-of (c .before .before .before .before .before .before .before .before)) .pre .2
 
 -- what finishing is lent
 module _ (m : tie.After-with-next) where
@@ -86,7 +93,7 @@ add-finish-rows c =
     let few = z c .pre .2 in omega arith
 
 mul-finish-rows : tie.Need-mul-finish-rows
-mul-finish-rows c = search needs
+mul-finish-rows c = let few = blend-at c .blend .ensures .few in omega arith
 
 sub-finish-rows : tie.Need-sub-finish-rows
 sub-finish-rows c = search needs
@@ -95,10 +102,10 @@ part-finish-rows-start : tie.Need-part-finish-rows-start
 part-finish-rows-start c = search needs
 
 part-finish-rows-end : tie.Need-part-finish-rows-end
-part-finish-rows-end c = search needs
+part-finish-rows-end c = let b = blend-at (c .before) in let few = b .blend .ensures .few in omega (arith, b .blend .kept)
 
 mul-finish-rows-2 : tie.Need-mul-finish-rows-2
-mul-finish-rows-2 c = search needs
+mul-finish-rows-2 c = let few = blend-at (c .before .before) .blend .ensures .few in omega arith
 
 sub-finish-rows-2 : tie.Need-sub-finish-rows-2
 sub-finish-rows-2 c = search needs
@@ -107,7 +114,10 @@ part-finish-rows-start-2 : tie.Need-part-finish-rows-start-2
 part-finish-rows-start-2 c = search needs
 
 part-finish-rows-end-2 : tie.Need-part-finish-rows-end-2
-part-finish-rows-end-2 c = search needs
+part-finish-rows-end-2 c =
+    let m = c .before .before .before in
+    let b = blend-at m in
+    let few = b .blend .ensures .few in omega (arith, b .blend .kept, numbers-at m .round-first .kept)
 
 slice-aggregate-finish-rows : tie.Need-slice-aggregate-finish-rows
 slice-aggregate-finish-rows c = search needs

@@ -12,7 +12,6 @@ use Rattle.forms.specs.RowsTo.{RowsTo, both-to, lines-to}
 use Rattle.raw.specs.Accepted.{InSpan}
 use Rattle.raw.specs.Unused.{counts-in}
 use Rattle.raw.specs.Limits.{centre-small}
-use Rattle.image.specs.Counted.{counts-below}
 use Rattle.image.specs.Imaged.{imaged}
 use Rattle.image.proofs.of_wide_step.Statement.{statement}
 use Rattle.image.proofs.of_wide_step.Tie as tie
@@ -96,26 +95,24 @@ counts-requires c κs =
     let z = start (made t) in
     (t .all-rows .ensures .inside, counts-in (S z) (ok z) .3, omega (arith, t .all-rows .kept, t .all-rows .ensures .inside, z .pre .8))
 
-radii-requires : tie.Need-radii-requires
-radii-requires c κs =
-    let n = c .before .before in
-    let t = n .before .before .before .before .before .before .before .before .before .before .before in
-    let l = made t in
-    let z = start l in (
-      lines-ok l,
-      z .pre .3,
-      ok z,
-      z .pre .7,
-      counts-below _ _ _ (t .all-rows .result) (S z .generators) (n .counts .result) (n .counts .ensures)
-          (t .all-rows .ensures .inside) (counts-in (S z) (ok z) .3),
-    )
+halves-requires : tie.Need-halves-requires
+halves-requires c κs = search needs
+
+-- where what is carried was worked out
+abbrev rows-made : tie.After-halves → tie.After-all-rows
+rows-made h = h .before .before .before .before .before .before .before .before .before .before .before .before .before
+
+carried-requires : tie.Need-carried-requires
+carried-requires c κs =
+    let l = made (rows-made (c .before)) in
+    let z = start l in (lines-ok l, z .pre .3, ok z, z .pre .7)
 
 mul-round-first : tie.Need-mul-round-first
 mul-round-first c = search needs
 
 round-first-requires : tie.Need-round-first-requires
 round-first-requires c κs =
-    let t = c .before .before .before .before .before .before .before .before .before .before .before .before .before .before .before in
+    let t = rows-made (c .before .before .before) in
     omega (arith, t .all-rows .kept, t .all-rows .ensures .inside, start (made t) .pre .8)
 
 slice-aggregate-round-first : tie.Need-slice-aggregate-round-first
@@ -133,8 +130,7 @@ round-first-requires-3 c κs = search needs
 same-length : tie.Need-same-length
 same-length c =
     let x = c .before .before .before .before .before .before .before in
-    let n = x .before .before .before .before .before in
-    let t = n .before .before .before .before .before .before .before .before .before .before .before in
+    let t = rows-made (x .before .before .before .before) in
     omega (arith, x .round-first .kept, t .all-rows .kept)
 
 same-length-2 : tie.Need-same-length-2
@@ -146,7 +142,8 @@ returns c =
     let k = v .before .before .before in
     let x = k .before .before .before in
     let d = x .before .before in
-    let n = d .before .before .before in
+    let h = d .before .before in
+    let n = h .before .before in
     let g = n .before .before .before .before in
     let m = g .before .before in
     let t = m .before .before .before .before .before in
@@ -158,7 +155,8 @@ returns c =
     (omega (arith, t .all-rows .kept, t .all-rows .ensures .inside, z .pre .8)) (x .round-first .ensures)
     (m .centre .result) _ (m .centre .ensures) (k .round-first2 .ensures)
     (g .generators .result) _ (g .generators .ensures) (v .round-first3 .ensures)
-    (z .args .gains .now) (n .counts .result) (d .radii .result) (n .counts .ensures) (d .radii .ensures)
+    (z .args .gains .now) (n .counts .result) (h .halves .result) (d .carried .result) (n .counts .ensures) (h .halves .ensures)
+    (d .carried .ensures)
 
 pub of-wide-step-spec : {M : Type 1} → statement M
 of-wide-step-spec =
@@ -170,7 +168,8 @@ of-wide-step-spec =
     centre-requires
     generators-requires
     counts-requires
-    radii-requires
+    halves-requires
+    carried-requires
     mul-round-first
     round-first-requires
     slice-aggregate-round-first

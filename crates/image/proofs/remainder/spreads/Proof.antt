@@ -22,7 +22,7 @@ loop-holds c = filling-begins 6 (F c) _ (search needs)
 spread-at-requires : tie.Need-spread-at-requires Inv-loop μ-loop
 spread-at-requires c κs =
     let s = c .before .before in
-    (s .pre .0, omega arith, s .pre .1, s .pre .2 (c .before .loop .x) (omega arith))
+    (s .pre .0, omega arith, s .pre .1, s .pre .2 (c .before .loop .x) (omega arith), s .pre .3 .below (c .before .loop .x))
 
 mul-out : tie.Need-mul-out Inv-loop μ-loop
 mul-out c = search needs

@@ -1,8 +1,8 @@
--- `image::remainder::radius_at` meets its contract: the two sums of S and what it gains together fit 63 bits.
+-- `image::remainder::carried_at` meets its contract: the two sums of S and what it gains together fit 63 bits.
 use native.Mathlib.Omega.{arith}
 use borrow.Author.Needs.{needs}
-use Rattle.image.proofs.remainder.radius_at.Statement.{statement}
-use Rattle.image.proofs.remainder.radius_at.Tie as tie
+use Rattle.image.proofs.remainder.carried_at.Statement.{statement}
+use Rattle.image.proofs.remainder.carried_at.Tie as tie
 
 slope-sum-requires : tie.Need-slope-sum-requires
 slope-sum-requires c κs = search needs
@@ -19,24 +19,18 @@ mul-rounded-up c = search needs
 element-copy-out-rounded-up : tie.Need-element-copy-out-rounded-up
 element-copy-out-rounded-up c = search needs
 
-mul-rounded-up-2 : tie.Need-mul-rounded-up-2
-mul-rounded-up-2 c = search needs
-
-element-copy-out-rounded-up-2 : tie.Need-element-copy-out-rounded-up-2
-element-copy-out-rounded-up-2 c = search needs
-
 rounded-up-requires : tie.Need-rounded-up-requires
 rounded-up-requires c κs =
-    let y = c .before .before in
+    let y = c .before in
     let x = y .before in
     let s = x .before in
-    (omega (arith, x .slope-sum .ensures, y .cross-sum .ensures, s .pre .6 .below (s .args .i)), s .pre .7 .below (s .args .i))
+    omega (arith, x .slope-sum .ensures, y .cross-sum .ensures, s .pre .6 .below (s .args .i))
 
 returns : tie.Need-returns
 returns c = search needs
 
-pub radius-at-spec : {M : Type 1} → statement M
-radius-at-spec =
+pub carried-at-spec : {M : Type 1} → statement M
+carried-at-spec =
     tie.close
     (tie.spec
     slope-sum-requires
@@ -44,7 +38,5 @@ radius-at-spec =
     add-rounded-up
     mul-rounded-up
     element-copy-out-rounded-up
-    mul-rounded-up-2
-    element-copy-out-rounded-up-2
     rounded-up-requires
     returns)

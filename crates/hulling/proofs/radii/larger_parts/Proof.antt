@@ -1,18 +1,18 @@
--- `radii::hull_radii` meets its contract.
+-- `radii::larger_parts` meets its contract.
 use mathlib.Core.Path.{_≡_, sym, ap, _∙_}
 use Prim.Native.Nat.{_-_, _≤_}
 use Rattle.whole.specs.Write.{write, write-none, write-next}
-use Rattle.hulling.specs.Radii.{hullRadius, first-places}
+use Rattle.hulling.specs.Radii.{largerPart, first-places}
 use borrow.Author.Needs.{needs}
 use native.Mathlib.Omega.{arith}
-use Rattle.hulling.proofs.radii.hull_radii.Statement.{statement}
-use Rattle.hulling.proofs.radii.hull_radii.Tie as tie
+use Rattle.hulling.proofs.radii.larger_parts.Statement.{statement}
+use Rattle.hulling.proofs.radii.larger_parts.Tie as tie
 
 abbrev Inv-loop : tie.InvT-loop
-Inv-loop p q counts n out₀ i₀ out i = (i ≤ n) × (out ≡ write out₀ 0 (hullRadius p q counts) i)
+Inv-loop p q n out₀ i₀ out i = (i ≤ n) × (out ≡ write out₀ 0 (largerPart p q) i)
 
 abbrev μ-loop : tie.MeasureT-loop
-μ-loop p q counts n out₀ i₀ out i = n - i
+μ-loop p q n out₀ i₀ out i = n - i
 
 loop-holds : tie.Need-loop-holds Inv-loop μ-loop
 loop-holds c = (omega arith, sym (write-none _ _ _))
@@ -29,17 +29,8 @@ mul-y c = search needs
 element-copy-out-y : tie.Need-element-copy-out-y Inv-loop μ-loop
 element-copy-out-y c = search needs
 
-mul-k : tie.Need-mul-k Inv-loop μ-loop
-mul-k c = search needs
-
-element-copy-out-k : tie.Need-element-copy-out-k Inv-loop μ-loop
-element-copy-out-k c = search needs
-
-hull-radius-requires : tie.Need-hull-radius-requires Inv-loop μ-loop
-hull-radius-requires c κs =
-    let at = c .before .before .before .before in
-    let s = at .before in
-    (s .pre .1 .below (at .loop .i), s .pre .2 .below (at .loop .i), s .pre .3 .below (at .loop .i))
+larger-part-requires : tie.Need-larger-part-requires Inv-loop μ-loop
+larger-part-requires c κs = search needs
 
 mul-out : tie.Need-mul-out Inv-loop μ-loop
 mul-out c = search needs
@@ -55,8 +46,8 @@ loop-less c = search needs
 
 loop-again : tie.Need-loop-again Inv-loop μ-loop
 loop-again c =
-    let l = c .before .before .before .before .before .loop in
-    (omega arith, write-next _ _ (l .out) (l .i) _ (l .inv .1) (c .hull-radius .ensures))
+    let l = c .before .before .before .before .loop in
+    (omega arith, write-next _ _ (l .out) (l .i) _ (l .inv .1) (c .larger-part .ensures))
 
 returns : tie.Need-returns Inv-loop μ-loop
 returns c =
@@ -65,10 +56,10 @@ returns c =
     let e : at .loop .i ≡ s .args .n = omega arith in
     at .loop .inv .1
     ∙ ap (write _ _ _) e
-    ∙ first-places (s .args .n) (hullRadius (s .args .p .now) (s .args .q .now) (s .args .counts .now)) (s .pre .0)
+    ∙ first-places (s .args .n) (largerPart (s .args .p .now) (s .args .q .now)) (s .pre)
 
-pub hull-radii-spec : {M : Type 1} → statement M
-hull-radii-spec =
+pub larger-parts-spec : {M : Type 1} → statement M
+larger-parts-spec =
     tie.close
     (tie.spec
     Inv-loop
@@ -78,9 +69,7 @@ hull-radii-spec =
     element-copy-out-x
     mul-y
     element-copy-out-y
-    mul-k
-    element-copy-out-k
-    hull-radius-requires
+    larger-part-requires
     mul-out
     array-write-out
     add-i
