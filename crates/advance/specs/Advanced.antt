@@ -3,12 +3,12 @@ use mathlib.Core.Path.{_≡_}
 use mathlib.Core.List.{List}
 use mathlib.Core.Option.{Option, none, some}
 use mathlib.Core.Bool.{Bool, true, false, cond, _&&_}
-use Prim.Native.Nat.{ℕ, _+_}
+use Prim.Native.Nat.{ℕ}
 use lib.Dec.{eqb}
 use Rattle.model.specs.Field.{Kind, start, step, disturbance, independent, tied, reduction, check, hull, rangedStep, unknown}
 use Rattle.model.specs.Field.{refused, meaning}
 use Rattle.model.specs.Run as Model
-use Rattle.model.specs.Run.{tag, kindOf, current, refusal}
+use Rattle.model.specs.Run.{tag, kindOf, current, refusal, acceptedBy, refusedAt}
 use Rattle.zonotope.specs.declared.Examined.{Examined}
 use Rattle.zonotope.specs.declared.Examined.the-variants.{Accepted, Refused}
 use Rattle.raw.specs.Append.{KeptFrom}
@@ -60,10 +60,7 @@ workedBy (Refused n) = eqb n 10
 abbrev pub byCause : ℕ → State → Kind → List ℕ → ℕ → Option ℕ → Advanced
 byCause place st k b bytes o = let m = meaning k b (st .next) (current (viewed st)) in record {
   answer = answerOf (record { field = st .count; outcome = elim o [ none ↦ m .outcome | some n ↦ refused n place ] }) bytes;
-  state = left st (elim o [
-    | none ↦ record { set = some (m .result); next = m .next; count = st .count + 1; over = false }
-    | some n ↦ record { set = viewed st .set; next = st .next; count = st .count; over = true }
-  ]);
+  state = left st (elim o [ none ↦ acceptedBy (viewed st) m | some n ↦ refusedAt (viewed st) ]);
   worked = isStep k && worked o;
 }
 

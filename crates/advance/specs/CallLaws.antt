@@ -1,6 +1,6 @@
 -- What a field of each kind answers and leaves, from what the call that reads its body ensures.
-use mathlib.Core.Path.{_≡_, refl, sym, _∙_, ap}
-use mathlib.Core.List.{List}
+use mathlib.Core.Path.{_≡_, refl, sym, _∙_, ap, subst}
+use mathlib.Core.List.{List, []}
 use mathlib.Core.Option.{Option, none, some}
 use mathlib.Core.Bool.{Bool, true, false, _&&_, true≢false}
 use Prim.Native.Nat.{ℕ, _+_, _<_, _≤_}
@@ -13,13 +13,12 @@ use Rattle.model.specs.Operations.{safe}
 use Rattle.model.specs.Body.{factors, givenHalfspaces}
 use Rattle.model.specs.Field.{Kind, start, independent, check, hull, refused, verdict}
 use Rattle.model.specs.Field.{meaning}
-use Rattle.model.specs.Run.{current, ofBody, noSet}
+use Rattle.model.specs.Run.{current, ofBody, noSet, withFolds, acceptedBy, refusedAt}
 use Rattle.model.proofs.Tests.{no-cause}
 use Rattle.zonotope.specs.declared.PolyZonotope.{PolyZonotope}
 use Rattle.zonotope.specs.declared.Examined.{Examined}
 use Rattle.zonotope.specs.declared.Examined.the-variants.{Accepted, Refused}
 use Rattle.zonotope.specs.Record.{view, pack}
-use Rattle.zonotope.specs.Counts.{InLimits}
 use Rattle.answers.specs.declared.Changed.{Changed}
 use Rattle.answers.specs.Answer.{answered}
 use Rattle.answers.specs.Accepted.{own-record}
@@ -37,19 +36,20 @@ use Rattle.states.specs.Answer.{parts, noBox, answerOf}
 use Rattle.advance.specs.declared.Advanced.{Advanced}
 use Rattle.advance.specs.Running.{Running, current-is}
 use Rattle.advance.specs.Advanced.{isStep, Used, workedBy, kindAdvanced}
+use Rattle.advance.specs.Totals.{makesAnew, Leavable, nothing-more}
 use Rattle.advance.specs.Kinds.{acceptedAs, refusedAs, judgedAs, concludedBy, concluded, Plain, plain-start, Boxed, start-alone}
-use Rattle.advance.specs.Kinds.{not-last, box-advanced, box-limits, cause-is, changed-limits, changed-advanced}
+use Rattle.advance.specs.Kinds.{not-last, box-advanced, box-leavable, cause-is, changed-leavable, changed-advanced}
 use Rattle.advance.specs.ConclusionLaws.{concluded-as}
 
 -- ---- a start set
 module _ (st : State) (run : Running st) (b : List ℕ) {r : Changed}
     (from : r ≡ answered (bodyRefusal start b 0 noSet) (pack noSet) (resultOf start b 0 noSet)) where
-  pub start-limits : r .outcome ≡ Accepted → InLimits (r .set)
-  start-limits =
-      changed-limits st run start b (λ e. absurd (true≢false e)) plain-start noSet
+  pub start-leavable : r .outcome ≡ Accepted → Leavable st true (r .set)
+  start-leavable =
+      changed-leavable st run start b (λ e. absurd (true≢false e)) plain-start noSet
       (start-alone b 0 noSet (current (viewed st))) (pack noSet) from
 
-  pub start-advanced : (place bytes : ℕ) {a : Advanced} → a ≡ concluded st place bytes (st .next) r false
+  pub start-advanced : (place bytes : ℕ) {a : Advanced} → a ≡ concluded st place bytes (st .next) r true false
       → a ≡ kindAdvanced place st start b bytes
   start-advanced place bytes =
       changed-advanced st run start b (λ e. absurd (true≢false e)) plain-start noSet
@@ -62,14 +62,17 @@ module _ (st : State) (run : Running st) (h : 0 < st .count) {k : Kind} (plain :
       × (resultOf k b 0 (view (st .set)) ≡ resultOf k b 0 (current (viewed st)))
   same = (ap (bodyRefusal k b 0) (sym (current-is st h)), ap (resultOf k b 0) (sym (current-is st h)))
 
-  pub made-limits : r .outcome ≡ Accepted → InLimits (r .set)
-  made-limits = changed-limits st run k b (λ e. h) plain (view (st .set)) same (st .set) from
+  pub made-leavable : {anew : Bool} → anew ≡ makesAnew k → r .outcome ≡ Accepted → Leavable st anew (r .set)
+  made-leavable e q =
+      subst (λ x. Leavable st x (r .set)) (sym e) (changed-leavable st run k b (λ e. h) plain (view (st .set)) same (st .set) from q)
 
-  pub made-advanced : (place bytes : ℕ) {w : Bool} → w ≡ (isStep k && worked (bodyRefusal k b 0 (view (st .set))))
-      → {a : Advanced} → a ≡ concluded st place bytes (st .next) r w → a ≡ kindAdvanced place st k b bytes
-  made-advanced place bytes q =
+  pub made-advanced : (place bytes : ℕ) {anew : Bool} → anew ≡ makesAnew k → {w : Bool}
+      → w ≡ (isStep k && worked (bodyRefusal k b 0 (view (st .set))))
+      → {a : Advanced} → a ≡ concluded st place bytes (st .next) r anew w → a ≡ kindAdvanced place st k b bytes
+  made-advanced place bytes {anew} e {w} q p =
       changed-advanced st run k b (λ e. h) plain (view (st .set)) same (st .set) from place bytes
       (q ∙ ap (λ o. isStep k && worked o) (cause-is st run k b (λ e. h) plain (view (st .set)) same (st .set) from))
+      (p ∙ ap (λ x. concluded st place bytes (st .next) r x w) e)
 
 -- ---- whether a step was worked out
 -- is told by what its call answers
@@ -81,11 +84,11 @@ worked-told o s m p = ap (λ (x : Changed). workedBy (x .outcome)) p ∙ go o
     go (some n) = refl
 
 -- and is said as told
-pub worked-said : (st : State) (place bytes next : ℕ) (r : Changed) (w : Bool) {a : Advanced} → a ≡ concluded st place bytes next r w
-    → a .worked ≡ w
-worked-said st place bytes next r w p = ap (λ (x : Advanced). x .worked) p ∙ go (r .outcome)
+pub worked-said : (st : State) (place bytes next : ℕ) (r : Changed) (anew w : Bool) {a : Advanced}
+    → a ≡ concluded st place bytes next r anew w → a .worked ≡ w
+worked-said st place bytes next r anew w p = ap (λ (x : Advanced). x .worked) p ∙ go (r .outcome)
   where
-    go : (o : Examined) → concludedBy o st place bytes next (r .set) w .worked ≡ w
+    go : (o : Examined) → concludedBy o st place bytes next (r .set) anew w .worked ≡ w
     go Accepted = refl
     go (Refused n) = refl
 
@@ -106,20 +109,21 @@ module _ (st : State) (run : Running st) (h : 0 < st .count) (k : Kind) (b : Lis
   fresh-answered =
       from ∙ ap (λ (u : Zonotope). answered (bodyRefusal k b (st .next) u) (st .set) (resultOf k b (st .next) u)) (sym (current-is st h))
 
-  pub fresh-limits : r .outcome ≡ Accepted → InLimits (r .set)
-  fresh-limits = box-limits st run k b (λ e. h) (st .set) fresh-answered
+  pub fresh-leavable : r .outcome ≡ Accepted → Leavable st (makesAnew k) (r .set)
+  fresh-leavable = box-leavable st run k b (λ e. h) (st .set) fresh-answered
 
   pub fresh-concluded : isStep k ≡ false → Boxed k b (st .next) (current (viewed st)) → (place bytes : ℕ)
-      → concluded st place bytes (meaning k b (st .next) (current (viewed st)) .next) r false ≡ kindAdvanced place st k b bytes
+      → concluded st place bytes (meaning k b (st .next) (current (viewed st)) .next) r (makesAnew k) false
+      ≡ kindAdvanced place st k b bytes
   fresh-concluded e boxed place bytes =
-      ap (λ (y : Bool). concluded st place bytes (meaning k b (st .next) (current (viewed st)) .next) r
+      ap (λ (y : Bool). concluded st place bytes (meaning k b (st .next) (current (viewed st)) .next) r (makesAnew k)
       (y && worked (bodyRefusal k b (st .next) (current (viewed st))))) (sym e)
       ∙ box-advanced st run k b (λ e. h) place bytes (st .set) boxed fresh-answered
 
 -- ---- a hull: one
 module _ (st : State) (run : Running st) (h : 0 < st .count) (b : List ℕ) {r : Changed}
     (from : r ≡ answered (bodyRefusal hull b (st .next) (view (st .set))) (st .set) (resultOf hull b (st .next) (view (st .set)))) where
-  pub hull-advanced : (place bytes : ℕ) {a : Advanced} → a ≡ concluded st place bytes (st .next + 1) r false
+  pub hull-advanced : (place bytes : ℕ) {a : Advanced} → a ≡ concluded st place bytes (st .next + 1) r true false
       → a ≡ kindAdvanced place st hull b bytes
   unfolding meaning
   hull-advanced place bytes p = p ∙ fresh-concluded st run h hull b from refl refl place bytes
@@ -136,21 +140,21 @@ module _ (st : State) (run : Running st) (h : 0 < st .count) (b : List ℕ) {r :
   cause = bodyRefusal independent b (st .next) (current (viewed st))
 
   sum-concluded : (place bytes : ℕ)
-      → concluded st place bytes (meaning independent b (st .next) (current (viewed st)) .next) r false
+      → concluded st place bytes (meaning independent b (st .next) (current (viewed st)) .next) r false false
       ≡ kindAdvanced place st independent b bytes
   unfolding meaning
   sum-concluded = fresh-concluded st run h independent b from refl refl
 
   pub sum-refused : (place bytes : ℕ) {n : ℕ} → r .outcome ≡ Refused n → {a : Advanced} → a ≡ refusedAs st place bytes n false
       → a ≡ kindAdvanced place st independent b bytes
-  sum-refused place bytes e p = p ∙ concluded-as st place bytes _ r false e ∙ sum-concluded place bytes
+  sum-refused place bytes e p = p ∙ concluded-as st place bytes _ r false false e ∙ sum-concluded place bytes
 
   pub sum-accepted : (place bytes : ℕ) {next : ℕ} → r .outcome ≡ Accepted → next ≡ st .next + factors b
-      → {a : Advanced} → a ≡ acceptedAs st bytes next (r .set) false → a ≡ kindAdvanced place st independent b bytes
+      → {a : Advanced} → a ≡ acceptedAs st bytes next (r .set) false false → a ≡ kindAdvanced place st independent b bytes
   unfolding meaning
   sum-accepted place bytes e q p =
-      p ∙ ap (λ n. acceptedAs st bytes n (r .set) false) q
-      ∙ concluded-as st place bytes (meaning independent b (st .next) (current (viewed st)) .next) r false e
+      p ∙ ap (λ n. acceptedAs st bytes n (r .set) false false) q
+      ∙ concluded-as st place bytes (meaning independent b (st .next) (current (viewed st)) .next) r false false e
       ∙ sum-concluded place bytes
 
   -- an accepted body has its counts
@@ -172,33 +176,31 @@ module _ (st : State) (run : Running st) (h : 0 < st .count) (b : List ℕ) (pla
 
   -- the set stays, and its record is the record of what it means
   kind-judged : kindAdvanced place st check b bytes ≡ judgedAs st place bytes (judgedBy (current (viewed st)))
-  unfolding kindAdvanced meaning left answerOf
+  unfolding kindAdvanced meaning viewed left answerOf
   kind-judged =
       go (bodyRefusal check b 0 (current (viewed st))) (safe (givenHalfspaces b) (current (viewed st))) (current (viewed st))
-      (ap pack (current-is st h) ∙ own-record (st .set) (run .set h))
+      (ap pack (current-is st h) ∙ own-record (st .set) (run .set h)) (nothing-more (st .folded) (run .six-totals))
     where
-      told : (o : Outcome) {x y : PolyZonotope} → x ≡ y → _≡_ {A = Advanced} (record {
+      told : (o : Outcome) {x y : PolyZonotope} {t u : List ℕ} → x ≡ y → t ≡ u → _≡_ {A = Advanced} (record {
         answer = parts (st .count) bytes o noBox;
-        state = record { set = x; next = st .next; count = st .count + 1; over = false };
+        state = record { set = x; next = st .next; count = st .count + 1; over = false; folded = t };
         worked = false;
       }) (record {
         answer = parts (st .count) bytes o noBox;
-        state = record { set = y; next = st .next; count = st .count + 1; over = false };
+        state = record { set = y; next = st .next; count = st .count + 1; over = false; folded = u };
         worked = false;
       })
-      told o e = rw e
+      told o e f = rw (e, f)
 
-      go : (o : Option ℕ) (y : Bool) (u : Zonotope) → pack u ≡ st .set → _≡_ {A = Advanced} (record {
-        answer = answerOf (record { field = st .count; outcome = elim o [ none ↦ verdict y | some n ↦ refused n place ] }) bytes;
-        state = left st (elim o [
-          | none ↦ record { set = some u; next = st .next; count = st .count + 1; over = false }
-          | some n ↦ record { set = viewed st .set; next = st .next; count = st .count; over = true }
-        ]);
-        worked = false;
-      }) (judgedAs st place bytes (judged o y))
-      go none true u e = told said.Safe e
-      go none false u e = told said.Unknown e
-      go (some n) y u e = refl
+      go : (o : Option ℕ) (y : Bool) (u : Zonotope) → pack u ≡ st .set → withFolds (st .folded) [] ≡ st .folded
+          → _≡_ {A = Advanced} (record {
+            answer = answerOf (record { field = st .count; outcome = elim o [ none ↦ verdict y | some n ↦ refused n place ] }) bytes;
+            state = left st (elim o [ none ↦ acceptedBy (viewed st) (meaning check b (st .next) u) | some n ↦ refusedAt (viewed st) ]);
+            worked = false;
+          }) (judgedAs st place bytes (judged o y))
+      go none true u e f = told said.Safe e f
+      go none false u e f = told said.Unknown e f
+      go (some n) y u e f = refl
 
   pub check-advanced : {v : Verdict} → v ≡ judgedBy (view (st .set)) → {a : Advanced} → a ≡ judgedAs st place bytes v
       → a ≡ kindAdvanced place st check b bytes

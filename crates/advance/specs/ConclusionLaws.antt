@@ -20,6 +20,7 @@ use Rattle.answers.specs.declared.Changed.{Changed}
 use Rattle.states.specs.declared.State.{State}
 use Rattle.states.specs.declared.Outcome.the-variants.{Inside}
 use Rattle.advance.specs.declared.Advanced.{Advanced}
+use Rattle.advance.specs.Totals.{foldedFrom, grown}
 use Rattle.advance.specs.Kinds.{acceptedAs, concludedBy, concluded}
 
 -- the first n are a table's, the others 0
@@ -45,27 +46,28 @@ module _ (s : PolyZonotope) where
   box-highs = six-table (s .dimension) (high (view s))
 
 -- an answer with these ends, and the state with the set
-pub accepted-is : (st : State) (bytes next : ℕ) (s : PolyZonotope) (worked : Bool) {l h : List ℤ}
+pub accepted-is : (st : State) (bytes next : ℕ) (s : PolyZonotope) (anew worked : Bool) {l h : List ℤ} {t : List ℕ}
     → l ≡ six (s .dimension) (low (view s)) → h ≡ six (s .dimension) (high (view s))
+    → t ≡ grown (st .folded) (foldedFrom anew st) (s .radii .folded)
     → _≡_ {A = Advanced} (record {
       answer = record { field = st .count; bytes = bytes; outcome = Inside; sides = s .dimension; low = l; high = h };
-      state = record { set = s; next = next; count = st .count + 1; over = false };
+      state = record { set = s; next = next; count = st .count + 1; over = false; folded = t };
       worked = worked;
-    }) (acceptedAs st bytes next s worked)
-accepted-is st bytes next s worked e f = go (box-sides s) (e ∙ box-lows s) (f ∙ box-highs s)
+    }) (acceptedAs st bytes next s anew worked)
+accepted-is st bytes next s anew worked e f = go (box-sides s) (e ∙ box-lows s) (f ∙ box-highs s)
   where
-    go : {m n : ℕ} {k l i j : List ℤ} → m ≡ n → k ≡ l → i ≡ j → _≡_ {A = Advanced} (record {
+    go : {m n : ℕ} {k l i j : List ℤ} {t u : List ℕ} → m ≡ n → k ≡ l → i ≡ j → t ≡ u → _≡_ {A = Advanced} (record {
       answer = record { field = st .count; bytes = bytes; outcome = Inside; sides = m; low = k; high = i };
-      state = record { set = s; next = next; count = st .count + 1; over = false };
+      state = record { set = s; next = next; count = st .count + 1; over = false; folded = t };
       worked = worked;
     }) (record {
       answer = record { field = st .count; bytes = bytes; outcome = Inside; sides = n; low = l; high = j };
-      state = record { set = s; next = next; count = st .count + 1; over = false };
+      state = record { set = s; next = next; count = st .count + 1; over = false; folded = u };
       worked = worked;
     })
-    go a b c = rw (a, b, c)
+    go a b c d = rw (a, b, c, d)
 
 -- by what a call answered
-pub concluded-as : (st : State) (place bytes next : ℕ) (r : Changed) (worked : Bool) {o : Examined} → r .outcome ≡ o
-    → concludedBy o st place bytes next (r .set) worked ≡ concluded st place bytes next r worked
-concluded-as st place bytes next r worked e = ap (λ (o : Examined). concludedBy o st place bytes next (r .set) worked) (sym e)
+pub concluded-as : (st : State) (place bytes next : ℕ) (r : Changed) (anew worked : Bool) {o : Examined} → r .outcome ≡ o
+    → concludedBy o st place bytes next (r .set) anew worked ≡ concluded st place bytes next r anew worked
+concluded-as st place bytes next r anew worked e = ap (λ (o : Examined). concludedBy o st place bytes next (r .set) anew worked) (sym e)

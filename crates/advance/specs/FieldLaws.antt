@@ -12,8 +12,8 @@ use Rattle.whole.specs.Tests.{or-left, or-right}
 use Rattle.model.specs.Limits.{lastField, lastTag}
 use Rattle.model.specs.Bytes.{byte}
 use Rattle.model.specs.Field.{refused, skipped}
-use Rattle.model.specs.Run.{tag, body, kindOf, refusal, meant, after, outcome, causes, ofBody, firstOf, firstField, fieldLength}
-use Rattle.model.specs.Run.{bodyLength, misplaced, cut}
+use Rattle.model.specs.Run.{tag, body, kindOf, refusal, meant, acceptedBy, refusedAt, after, outcome, causes, ofBody, firstOf}
+use Rattle.model.specs.Run.{firstField, fieldLength, bodyLength, misplaced, cut}
 use Rattle.zonotope.specs.Answer.{orElse, first-append}
 use Rattle.stepping.specs.Work.{worked}
 use Rattle.states.specs.declared.State.{State}
@@ -100,7 +100,7 @@ module _ (st : State) (rest : List ℕ) (header : firstOf (ofHeader (st .count) 
 -- ---- a run that is over
 -- the state, known to be over
 abbrev ended : State → State
-ended st = record { set = st .set; next = st .next; count = st .count; over = true }
+ended st = record { set = st .set; next = st .next; count = st .count; over = true; folded = st .folded }
 
 ended-advanced : (st : State) (place : ℕ) (f : List ℕ) → skippedAs (ended st) (length f) ≡ advanced place (ended st) f
 unfolding advanced taken after outcome viewed left answerOf
@@ -112,7 +112,7 @@ skipped-advanced st place f e q p =
     p ∙ ap (skippedAs st) q ∙ subst (λ (x : State). skippedAs x (length f) ≡ advanced place x f) (sym known) (ended-advanced st place f)
   where
     known : st ≡ ended st
-    known = ap (λ b. record { set = st .set; next = st .next; count = st .count; over = b }) e
+    known = ap (λ b. record { set = st .set; next = st .next; count = st .count; over = b; folded = st .folded }) e
 
 -- ---- a header that is refused
 -- none is refused as a result is
@@ -154,13 +154,8 @@ module _ (st : State) (f : List ℕ) (on : st .over ≡ false) {n : ℕ} (header
           outcome = cond over skipped (elim o [ none ↦ meant (viewed st) f .outcome | some n ↦ refused n place ]);
         }) (length f);
         state = left st (cond over (viewed st) (elim o [
-          | none ↦ record {
-            set = some (meant (viewed st) f .result);
-            next = meant (viewed st) f .next;
-            count = st .count + 1;
-            over = false;
-          }
-          | some n ↦ record { set = viewed st .set; next = st .next; count = st .count; over = true }
+          | none ↦ acceptedBy (viewed st) (meant (viewed st) f)
+          | some n ↦ refusedAt (viewed st)
         ]));
         worked = cond over false (isStep (kindOf (tag f)) && worked o);
       }) (refusedAs st place (length f) n (isStep (kindOf (tag f)) && worked (some n)))

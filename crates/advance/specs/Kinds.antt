@@ -15,7 +15,8 @@ use Rattle.model.specs.Set.{Zonotope}
 use Rattle.model.specs.Operations.{box}
 use Rattle.model.specs.Field as Model
 use Rattle.model.specs.Field.{Kind, start, step, disturbance, tied, reduction, rangedStep, inside, refused, skipped, meaning}
-use Rattle.model.specs.Run.{tag, body, kindOf, current, refusal, meant, after, outcome, firstOf, causes, ofBody, misplaced, cut}
+use Rattle.model.specs.Run.{tag, body, kindOf, current, refusal, meant, acceptedBy, refusedAt, after, outcome, firstOf}
+use Rattle.model.specs.Run.{causes, ofBody, misplaced, cut}
 use Rattle.model.proofs.Tests.{any-false, no-cause}
 use Rattle.model.proofs.Shape as Shape
 use Rattle.model.proofs.Held.{Held, held}
@@ -25,7 +26,7 @@ use Rattle.zonotope.specs.declared.PolyZonotope.{PolyZonotope}
 use Rattle.zonotope.specs.declared.Examined.{Examined}
 use Rattle.zonotope.specs.declared.Examined.the-variants.{Accepted, Refused}
 use Rattle.zonotope.specs.Record.{view, pack}
-use Rattle.zonotope.specs.Counts.{InLimits, countable}
+use Rattle.zonotope.specs.Counts.{countable}
 use Rattle.zonotope.specs.Answer.{orElse, first-append}
 use Rattle.zonotope.proofs.ViewPack.{view-pack}
 use Rattle.answers.specs.declared.Changed.{Changed}
@@ -46,13 +47,20 @@ use Rattle.advance.specs.declared.Advanced.{Advanced}
 use Rattle.advance.specs.Header.{ofHeader, header-passed}
 use Rattle.advance.specs.Running.{Running, current-is}
 use Rattle.advance.specs.Advanced.{isStep, advanced, byCause, kindAdvanced}
+use Rattle.advance.specs.Totals.{makesAnew, foldedFrom, grown, Leavable, result-rises, grown-is}
 
 -- ---- an accepted field and a refused one
--- a field that leaves this set answers with its box
-abbrev pub acceptedAs : State → ℕ → ℕ → PolyZonotope → Bool → Advanced
-acceptedAs st bytes next s worked = record {
+-- a field that leaves this set answers with its box; its folded parts are made anew or go on from those of the set before
+abbrev pub acceptedAs : State → ℕ → ℕ → PolyZonotope → Bool → Bool → Advanced
+acceptedAs st bytes next s anew worked = record {
   answer = parts (st .count) bytes said.Inside (box (view s));
-  state = record { set = s; next = next; count = st .count + 1; over = false };
+  state = record {
+    set = s;
+    next = next;
+    count = st .count + 1;
+    over = false;
+    folded = grown (st .folded) (foldedFrom anew st) (s .radii .folded);
+  };
   worked = worked;
 }
 
@@ -60,7 +68,7 @@ acceptedAs st bytes next s worked = record {
 abbrev pub refusedAs : State → ℕ → ℕ → ℕ → Bool → Advanced
 refusedAs st place bytes n worked = record {
   answer = parts (st .count) bytes (said.Refused (record { number = n; place = place })) noBox;
-  state = record { set = st .set; next = st .next; count = st .count; over = true };
+  state = record { set = st .set; next = st .next; count = st .count; over = true; folded = st .folded };
   worked = worked;
 }
 
@@ -72,7 +80,7 @@ skippedAs st bytes = record { answer = parts (st .count) bytes said.Skipped noBo
 abbrev pub checkedAs : State → ℕ → Outcome → Advanced
 checkedAs st bytes o = record {
   answer = parts (st .count) bytes o noBox;
-  state = record { set = st .set; next = st .next; count = st .count + 1; over = false };
+  state = record { set = st .set; next = st .next; count = st .count + 1; over = false; folded = st .folded };
   worked = false;
 }
 
@@ -82,12 +90,12 @@ judgedAs st place bytes verdict.Unknown = checkedAs st bytes said.Unknown
 judgedAs st place bytes (verdict.Refused n) = refusedAs st place bytes n false
 
 -- by what a call that changes a set answers
-abbrev pub concludedBy : Examined → State → ℕ → ℕ → ℕ → PolyZonotope → Bool → Advanced
-concludedBy Accepted st place bytes next s worked = acceptedAs st bytes next s worked
-concludedBy (Refused n) st place bytes next s worked = refusedAs st place bytes n worked
+abbrev pub concludedBy : Examined → State → ℕ → ℕ → ℕ → PolyZonotope → Bool → Bool → Advanced
+concludedBy Accepted st place bytes next s anew worked = acceptedAs st bytes next s anew worked
+concludedBy (Refused n) st place bytes next s anew worked = refusedAs st place bytes n worked
 
-abbrev pub concluded : State → ℕ → ℕ → ℕ → Changed → Bool → Advanced
-concluded st place bytes next r worked = concludedBy (r .outcome) st place bytes next (r .set) worked
+abbrev pub concluded : State → ℕ → ℕ → ℕ → Changed → Bool → Bool → Advanced
+concluded st place bytes next r anew worked = concludedBy (r .outcome) st place bytes next (r .set) anew worked
 
 -- ---- the kinds that answer with a box and neither ask for the next identifier nor change it
 pub data Plain : Kind → Type 0 where
@@ -103,9 +111,9 @@ pub plain-stepped : (ranged : Bool) → Plain (stepKind ranged)
 plain-stepped false = plain-step
 plain-stepped true = plain-ranged
 
-pub stepped-works : (ranged : Bool) → isStep (stepKind ranged) ≡ true
-stepped-works false = refl
-stepped-works true = refl
+pub stepped-works : (ranged : Bool) → (isStep (stepKind ranged) ≡ true) × (true ≡ makesAnew (stepKind ranged))
+stepped-works false = (refl, refl)
+stepped-works true = (refl, refl)
 
 -- a field that answers with the box of what it leaves
 abbrev pub Boxed : Kind → List ℕ → ℕ → Zonotope → Type 0
@@ -177,39 +185,43 @@ module _ (st : State) (run : Running st) where
     abbrev cause : Option ℕ
     cause = bodyRefusal k b (st .next) (current (viewed st))
 
-    -- what it leaves can be written as a record
-    pub result-means : cause ≡ none → (view (pack (m .result)) ≡ m .result) × InLimits (pack (m .result))
+    -- what it leaves can be written as a record, and be left
+    pub result-means : cause ≡ none → (view (pack (m .result)) ≡ m .result) × Leavable st (makesAnew k) (pack (m .result))
     unfolding pack
     result-means e =
         let h = leaves k b (st .next) (current (viewed st)) from-first (λ q. now-held (there q))
         (body-passed k b (st .next) (current (viewed st)) e) .holds in
         let counts = Shape.counts-false (h .counts) in
-        (view-pack (m .result) (h .shaped) counts, countable (m .result) counts)
+        let leavable : Leavable st (makesAnew k) (pack (m .result)) =
+        record { limits = countable (m .result) counts; rising = result-rises st run k b there; few = run .totals } in
+        (view-pack (m .result) (h .shaped) counts, leavable)
 
     -- a field that answers with a box, and the set that the call gave
     pub box-advanced : (place bytes : ℕ) (s : PolyZonotope) {r : Changed} → Boxed k b (st .next) (current (viewed st))
         → r ≡ answered cause s (m .result)
-        → concluded st place bytes (m .next) r (isStep k && worked cause) ≡ kindAdvanced place st k b bytes
-    unfolding kindAdvanced left answerOf
+        → concluded st place bytes (m .next) r (makesAnew k) (isStep k && worked cause) ≡ kindAdvanced place st k b bytes
+    unfolding kindAdvanced viewed left answerOf
     box-advanced place bytes s {r} e p =
-        ap (λ (x : Changed). concluded st place bytes (m .next) x (isStep k && worked cause)) p ∙ go cause refl
+        ap (λ (x : Changed). concluded st place bytes (m .next) x (makesAnew k) (isStep k && worked cause)) p ∙ go cause refl
       where
-        go : (o : Option ℕ) → cause ≡ o → concluded st place bytes (m .next) (answered o s (m .result)) (isStep k && worked o)
+        go : (o : Option ℕ) → cause ≡ o
+            → concluded st place bytes (m .next) (answered o s (m .result)) (makesAnew k) (isStep k && worked o)
             ≡ byCause place st k b bytes o
         go none q =
-            ap (λ (v : Model.Outcome). record {
+            ap₂ (λ (v : Model.Outcome) (l : List ℕ). record {
               answer = parts (st .count) bytes (outcomeOf v) (boxOf v);
-              state = record { set = pack (m .result); next = m .next; count = st .count + 1; over = false };
+              state = record { set = pack (m .result); next = m .next; count = st .count + 1; over = false; folded = l };
               worked = isStep k && true;
-            }) (ap (λ (u : Zonotope). inside (box u)) (result-means q .0) ∙ sym e)
+            }) (ap (λ (u : Zonotope). inside (box u)) (result-means q .0) ∙ sym e) (grown-is st run k b there)
         go (some n) q = refl
 
-    -- the set of a call that accepts is in limits
-    pub box-limits : (s : PolyZonotope) {r : Changed} → r ≡ answered cause s (m .result) → r .outcome ≡ Accepted → InLimits (r .set)
-    box-limits s {r} p a = go cause refl p
+    -- the set of a call that accepts can be left
+    pub box-leavable : (s : PolyZonotope) {r : Changed} → r ≡ answered cause s (m .result) → r .outcome ≡ Accepted
+        → Leavable st (makesAnew k) (r .set)
+    box-leavable s {r} p a = go cause refl p
       where
-        go : (o : Option ℕ) → cause ≡ o → r ≡ answered o s (m .result) → InLimits (r .set)
-        go none q p = subst (λ (x : Changed). InLimits (x .set)) (sym p) (result-means q .1)
+        go : (o : Option ℕ) → cause ≡ o → r ≡ answered o s (m .result) → Leavable st (makesAnew k) (r .set)
+        go none q p = subst (λ (x : Changed). Leavable st (makesAnew k) (x .set)) (sym p) (result-means q .1)
         go (some n) q p = let z : _≡_ {A = ℕ} 0 1 = cc (sym a ∙ ap (λ (x : Changed). x .outcome) p) in absurd (omega arith)
 
     -- the same of a call that knows neither the next identifier nor whether there was a set
@@ -227,13 +239,13 @@ module _ (st : State) (run : Running st) where
       answered-is : r ≡ answered cause s (m .result)
       answered-is = from ∙ ap₂ (λ o (x : Zonotope). answered o s x) cause-is (same .1 ∙ sym (opened .1))
 
-      pub changed-limits : r .outcome ≡ Accepted → InLimits (r .set)
-      changed-limits = box-limits s answered-is
+      pub changed-leavable : r .outcome ≡ Accepted → Leavable st (makesAnew k) (r .set)
+      changed-leavable = box-leavable s answered-is
 
       pub changed-advanced : (place bytes : ℕ) {w : Bool} → w ≡ (isStep k && worked cause) → {a : Advanced}
-          → a ≡ concluded st place bytes (st .next) r w → a ≡ kindAdvanced place st k b bytes
+          → a ≡ concluded st place bytes (st .next) r (makesAnew k) w → a ≡ kindAdvanced place st k b bytes
       changed-advanced place bytes q p =
-          p ∙ ap₂ (λ n w. concluded st place bytes n r w) (sym (opened .2)) q
+          p ∙ ap₂ (λ n w. concluded st place bytes n r (makesAnew k) w) (sym (opened .2)) q
           ∙ box-advanced place bytes s (plain-boxed plain b (st .next) (current (viewed st))) answered-is
 
 -- ---- a field whose header passed, in a run that isn't over
@@ -256,13 +268,8 @@ module _ (st : State) (f : List ℕ) (on : st .over ≡ false) (header : firstOf
               outcome = cond over skipped (elim o [ none ↦ meant (viewed st) f .outcome | some n ↦ refused n place ]);
             }) (length f);
             state = left st (cond over (viewed st) (elim o [
-              | none ↦ record {
-                set = some (meant (viewed st) f .result);
-                next = meant (viewed st) f .next;
-                count = st .count + 1;
-                over = false;
-              }
-              | some n ↦ record { set = viewed st .set; next = st .next; count = st .count; over = true }
+              | none ↦ acceptedBy (viewed st) (meant (viewed st) f)
+              | some n ↦ refusedAt (viewed st)
             ]));
             worked = cond over false (isStep (kindOf (tag f)) && worked o);
           }) (byCause place st (kindOf (tag f)) (body f) (length f)

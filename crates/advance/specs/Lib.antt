@@ -3,6 +3,7 @@
 --     Running         a state that a run can have
 --     Advanced        what is answered and left, and what becomes of the work slices
 --     RecordRuns      the record of a sound state is one that a run can have
+--     Totals          the totals of what folding added, after an accepted field
 --     Kinds           what is answered and left, by what a field of each kind answers
 --     HeaderLaws      a header's causes by the input's own bytes
 --     ConclusionLaws  the six places of an answer's ends, and what is answered by an outcome
@@ -12,6 +13,7 @@ pub mod Header
 pub mod Running
 pub mod Advanced
 pub mod RecordRuns
+pub mod Totals
 pub mod Kinds
 pub mod HeaderLaws
 pub mod ConclusionLaws

@@ -2,6 +2,7 @@
 use mathlib.Core.Path.{_≡_, _∙_, ap, ap₂}
 use mathlib.Core.List.{List}
 use Prim.Native.Nat.{ℕ}
+use native.Mathlib.Omega.{arith}
 use lib.ListN.{length}
 use Rattle.model.specs.Run as Model
 use Rattle.model.specs.Run.{current, after, answer}
@@ -22,6 +23,8 @@ unfolding examine
 record-runs {u} s = record {
   set = λ h. record { sized = pack-sized (current u); passed = valid (given (pack (current u))) (passes (s .valid h)) };
   next = ap (λ (x : Model.State). badNext (u .next) (current x)) (viewed-record s) ∙ next-fits s;
+  six-totals = s .six-totals;
+  totals = λ i. omega (arith, s .spans-most i, s .count-in);
 }
 
 -- a field given to it leaves the record of what the definitions leave

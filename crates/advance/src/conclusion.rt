@@ -1,9 +1,10 @@
 // What a field answers and leaves, by what was found.
 ghost use mathlib.Core.Path.{_≡_};
 ghost use Prim.Native.Nat.{_≤_};
-ghost use Rattle.zonotope.specs.Counts.{InLimits};
+ghost use Rattle.advance.specs.Totals.{Leavable};
 ghost use Rattle.advance.specs.Kinds.{acceptedAs, refusedAs, skippedAs, checkedAs, judgedAs, concluded};
 use crate::Advanced;
+use crate::totals;
 use answers::Changed;
 use states::Answer;
 use states::Outcome;
@@ -34,7 +35,7 @@ pub fn skipped(st: State, bytes: usize) -> Advanced
     }
 }
 
-// A refused field ends the run and leaves the set.
+// A refused field ends the run and leaves the set and the totals.
 pub fn refused(st: State, place: usize, bytes: usize, number: u8, worked: bool) -> Advanced
     ensures { λ r. ⌜ r ≡ refusedAs st place bytes number worked ⌝ }
 {
@@ -50,11 +51,13 @@ pub fn refused(st: State, place: usize, bytes: usize, number: u8, worked: bool) 
         high,
     };
     let set = st.set;
+    let folded = st.folded;
     let state = State {
         set,
         next: st.next,
         count: st.count,
         over: true,
+        folded,
     };
     Advanced {
         answer,
@@ -63,11 +66,19 @@ pub fn refused(st: State, place: usize, bytes: usize, number: u8, worked: bool) 
     }
 }
 
-// An accepted field that leaves this set answers with its box.
-pub fn accepted(st: State, bytes: usize, next: u32, set: PolyZonotope, worked: bool) -> Advanced
-    requires { ⌜ InLimits set × (st .count ≤ 4096) ⌝ }
-    ensures { λ r. ⌜ r ≡ acceptedAs st bytes next set worked ⌝ }
+// An accepted field that leaves this set answers with its box; its folded parts were made anew or go on from those of the set before.
+pub fn accepted(
+    st: State,
+    bytes: usize,
+    next: u32,
+    set: PolyZonotope,
+    anew: bool,
+    worked: bool,
+) -> Advanced
+    requires { ⌜ Leavable st anew set × (st .count ≤ 4096) ⌝ }
+    ensures { λ r. ⌜ r ≡ acceptedAs st bytes next set anew worked ⌝ }
 {
+    let folded = totals::after(st, set, anew);
     let ends = verdicts::ends_of(set);
     let low = ends.low;
     let high = ends.high;
@@ -84,6 +95,7 @@ pub fn accepted(st: State, bytes: usize, next: u32, set: PolyZonotope, worked: b
         next,
         count: st.count + 1,
         over: false,
+        folded,
     };
     Advanced {
         answer,
@@ -99,22 +111,23 @@ pub fn changed(
     bytes: usize,
     next: u32,
     r: Changed,
+    anew: bool,
     worked: bool,
 ) -> Advanced
-    requires { ⌜ (r .outcome ≡ Examined.Accepted → InLimits (r .set)) × (st .count ≤ 4096) ⌝ }
-    ensures { λ a. ⌜ a ≡ concluded st place bytes next r worked ⌝ }
+    requires { ⌜ (r .outcome ≡ Examined.Accepted → Leavable st anew (r .set)) × (st .count ≤ 4096) ⌝ }
+    ensures { λ a. ⌜ a ≡ concluded st place bytes next r anew worked ⌝ }
 {
     let o = r.outcome;
     match o {
         Examined::Refused(number) => refused(st, place, bytes, number, worked),
         Examined::Accepted => {
             let set = r.set;
-            accepted(st, bytes, next, set, worked)
+            accepted(st, bytes, next, set, anew, worked)
         }
     }
 }
 
-// By a verdict: the set stays.
+// By a verdict: the set and the totals stay.
 pub fn judged(st: State, place: usize, bytes: usize, v: Verdict) -> Advanced
     requires { ⌜ st .count ≤ 4096 ⌝ }
     ensures { λ a. ⌜ a ≡ judgedAs st place bytes v ⌝ }
@@ -141,11 +154,13 @@ fn checked(st: State, bytes: usize, outcome: Outcome) -> Advanced
         high,
     };
     let set = st.set;
+    let folded = st.folded;
     let state = State {
         set,
         next: st.next,
         count: st.count + 1,
         over: false,
+        folded,
     };
     Advanced {
         answer,

@@ -70,7 +70,7 @@ fn started(st: State, place: usize, bytes: usize, body: &[u8]) -> Advanced
     ensures { λ r. ⌜ r ≡ kindAdvanced place st start (now (body .entry)) bytes ⌝ }
 {
     let r = fields::sets::start(body);
-    conclusion::changed(st, place, bytes, st.next, r, false)
+    conclusion::changed(st, place, bytes, st.next, r, true, false)
 }
 
 // A step or a ranged step.
@@ -91,7 +91,7 @@ fn stepped(
     let s = st.set;
     let r = fields::steps::step(s, ranged, body, w, e);
     let o = r.outcome;
-    conclusion::changed(st, place, bytes, st.next, r, was_worked(o))
+    conclusion::changed(st, place, bytes, st.next, r, true, was_worked(o))
 }
 
 // Whether a step with this answer was worked out.
@@ -111,7 +111,7 @@ fn disturbed(st: State, place: usize, bytes: usize, body: &[u8]) -> Advanced
 {
     let s = st.set;
     let r = fields::disturbances::disturb(s, body);
-    conclusion::changed(st, place, bytes, st.next, r, false)
+    conclusion::changed(st, place, bytes, st.next, r, false, false)
 }
 
 // An independent sum: the body's factors take the next identifiers.
@@ -128,7 +128,7 @@ fn summed(st: State, place: usize, bytes: usize, body: &[u8]) -> Advanced
         Examined::Accepted => {
             let set = r.set;
             let p = words::byte_at(body, 1);
-            conclusion::accepted(st, bytes, next + p as u32, set, false)
+            conclusion::accepted(st, bytes, next + p as u32, set, false, false)
         }
     }
 }
@@ -140,7 +140,7 @@ fn tied(st: State, place: usize, bytes: usize, body: &[u8]) -> Advanced
 {
     let s = st.set;
     let r = fields::sets::tied(s, body);
-    conclusion::changed(st, place, bytes, st.next, r, false)
+    conclusion::changed(st, place, bytes, st.next, r, false, false)
 }
 
 // A reduction.
@@ -150,7 +150,7 @@ fn reduced(st: State, place: usize, bytes: usize, body: &[u8]) -> Advanced
 {
     let s = st.set;
     let r = fields::reductions::reduce(s, body);
-    conclusion::changed(st, place, bytes, st.next, r, false)
+    conclusion::changed(st, place, bytes, st.next, r, false, false)
 }
 
 // A check.
@@ -171,5 +171,5 @@ fn hulled(st: State, place: usize, bytes: usize, body: &[u8]) -> Advanced
     let s = st.set;
     let next = st.next;
     let r = fields::sets::hull(s, next, body);
-    conclusion::changed(st, place, bytes, next + 1, r, false)
+    conclusion::changed(st, place, bytes, next + 1, r, true, false)
 }

@@ -17,6 +17,7 @@ use zonotope::Examined;
 mod conclusion;
 mod header;
 mod kinds;
+mod totals;
 
 // An answer, the state that the field leaves, and whether a step was worked out in the work slices.
 pub struct Advanced {

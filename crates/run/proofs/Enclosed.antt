@@ -4,7 +4,7 @@ use mathlib.Core.Path.{_≡_, refl, sym, _∙_, ap, subst}
 use mathlib.Core.List.{List, [], _∷_, map}
 use mathlib.Core.Option.{Option, none, some}
 use mathlib.Core.Bool.{Bool, true, false, cond}
-use Prim.Native.Nat.{ℕ, suc, _+_, _<_, _≤_}
+use Prim.Native.Nat.{ℕ, suc, _<_, _≤_}
 use native.Mathlib.Omega.{arith}
 use lib.Dec.{T}
 use lib.ListN.{length, getD}
@@ -13,7 +13,7 @@ use Rattle.whole.specs.Tab.{tab, getD-tab}
 use Rattle.rational.specs.Rational.{ι, _≤ℚ_}
 use Rattle.model.specs.Set.{Zonotope, at}
 use Rattle.model.specs.Run as Model
-use Rattle.model.specs.Run.{tag, body, kindOf, meant, refusal, accepted, after, answer, outcome, firstField}
+use Rattle.model.specs.Run.{tag, body, kindOf, meant, refusal, accepted, acceptedBy, refusedAt, after, answer, outcome, firstField}
 use Rattle.model.specs.Points.{Vector, Point}
 use Rattle.model.specs.Motion as Motion
 use Rattle.model.specs.Motion.{Picks, Allowed, InBox, move, valuesAfter, markAfter}
@@ -48,8 +48,8 @@ unfolding accepted after
 counts u f = go (u .over) (refusal u f)
   where
     go : (b : Bool) (o : Option ℕ) → T (cond b false (elim o [ none ↦ true | some n ↦ false ])) → 0 < cond b u (elim o [
-      | none ↦ record { set = some (meant u f .result); next = meant u f .next; count = u .count + 1; over = false }
-      | some n ↦ record { set = u .set; next = u .next; count = u .count; over = true }
+      | none ↦ acceptedBy u (meant u f)
+      | some n ↦ refusedAt u
     ]) .count
     go true o t = absurd t
     go false none t = omega arith

@@ -5,9 +5,10 @@ use mathlib.Core.Option.{none}
 use mathlib.Core.Bool.{false, cond}
 use Prim.Native.Nat.{ℕ, zero, suc, _<_}
 use native.Mathlib.Omega.{arith}
-use borrow.Author.Tests.{ne-eqb, eq-eqb}
+use borrow.Author.Tests.{ne-eqb, eq-eqb, le-ltb}
 use lib.Dec.{eqb}
-use lib.ListN.{length}
+use lib.ListN.{length, getD}
+use Rattle.model.specs.Limits.{maxTotal}
 use Rattle.model.specs.Run as Model
 use Rattle.model.specs.Run.{begin, current, after, answer, _if_, firstOf, firstField}
 use Rattle.model.specs.Library.{ofFirst, badNext}
@@ -19,7 +20,8 @@ use Rattle.states.specs.State.{viewed, recordOf, beginning}
 use Rattle.states.specs.Answer.{answerOf}
 use Rattle.states.specs.Taken.{taken}
 use Rattle.states.specs.Recorded.{passes, next-fits, viewed-record, taken-record}
-use Rattle.run.specs.Unfit.{unfit}
+use Rattle.advance.specs.RecordRuns.{record-runs}
+use Rattle.run.specs.Unfit.{badTotals, ofRest, unfit, totals-good}
 use Rattle.run.specs.Field.{returned, fielded}
 
 -- a run begins with the record of the definitions' first state
@@ -30,11 +32,15 @@ begin-record = refl
 pub never-unfit : {u : Model.State} → Sound u → unfit false (recordOf u) ≡ none
 unfolding unfit firstOf
 never-unfit {u} s =
-    first-append (cond (eqb (u .count) 0) [] (ofFirst (given (pack (current u))))) ((11 if badNext (u .next) (current (viewed (recordOf u)))) ∷ [])
-    ∙ ap₂ orElse (set-passes (u .count) refl) (ap (λ x. firstOf ((11 if x) ∷ [])) next)
+    first-append (cond (eqb (u .count) 0) [] (ofFirst (given (pack (current u)))))
+    (ofRest (badNext (u .next) (current (viewed (recordOf u)))) (u .folded))
+    ∙ ap₂ orElse (set-passes (u .count) refl) (ap₂ (λ x y. firstOf ((11 if x) ∷ (6 if y) ∷ [])) next totals)
   where
     next : badNext (u .next) (current (viewed (recordOf u))) ≡ false
     next = ap (λ (x : Model.State). badNext (u .next) (current x)) (viewed-record s) ∙ next-fits s
+
+    totals : badTotals (u .folded) ≡ false
+    totals = totals-good (u .folded) (λ i l. le-ltb maxTotal (getD (u .folded) i 0) (record-runs s .totals i))
 
     set-passes : (n : ℕ) → u .count ≡ n → firstOf (cond (eqb (u .count) 0) [] (ofFirst (given (pack (current u))))) ≡ none
     set-passes zero e = rw (eq-eqb (u .count) 0 e)

@@ -10,7 +10,8 @@ use lib.ListN.{length}
 use Rattle.model.specs.Set.{Zonotope}
 use Rattle.model.specs.Points.{Point}
 use Rattle.model.specs.Run as Model
-use Rattle.model.specs.Run.{tag, body, kindOf, current, after, accepted, answer, outcome, refusal, meant, run, fields}
+use Rattle.model.specs.Run.{tag, body, kindOf, current, after, accepted, answer, outcome, refusal, meant, acceptedBy, refusedAt, run}
+use Rattle.model.specs.Run.{fields}
 use Rattle.model.specs.Motion as Motion
 use Rattle.model.specs.Motion.{Picks}
 use Rattle.model.proofs.Shape.{counted}
@@ -35,8 +36,8 @@ unfolding accepted after
 stays u f = go (u .over) (refusal u f)
   where
     go : (b : Bool) (o : Option ℕ) → cond b false (elim o [ none ↦ true | some n ↦ false ]) ≡ false → (let x = cond b u (elim o [
-      | none ↦ record { set = some (meant u f .result); next = meant u f .next; count = u .count + 1; over = false }
-      | some n ↦ record { set = u .set; next = u .next; count = u .count; over = true }
+      | none ↦ acceptedBy u (meant u f)
+      | some n ↦ refusedAt u
     ]) in (current u ≡ current x) × (x .count ≡ u .count))
     go true o e = (refl, refl)
     go false none e = absurd (true≢false e)
@@ -84,8 +85,8 @@ over-moment p m now f e = go (now .state .over) e
   where
     go : (b : Bool) → b ≡ true → _≡_ {A = Motion.Moment} (record {
       state = cond b (now .state) (elim (refusal (now .state) f) [
-        | none ↦ record { set = some (meant (now .state) f .result); next = meant (now .state) f .next; count = now .state .count + 1; over = false }
-        | some n ↦ record { set = now .state .set; next = now .state .next; count = now .state .count; over = true }
+        | none ↦ acceptedBy (now .state) (meant (now .state) f)
+        | some n ↦ refusedAt (now .state)
       ]);
       mark = cond (cond b false (elim (refusal (now .state) f) [ none ↦ true | some n ↦ false ])) (Motion.markAfter (kindOf (tag f)) (body f) (now .mark)) (now .mark);
       values = cond (cond b false (elim (refusal (now .state) f) [ none ↦ true | some n ↦ false ]))

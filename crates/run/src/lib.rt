@@ -41,11 +41,13 @@ pub fn begin() -> State
     ensures { λ r. ⌜ r ≡ beginning ⌝ }
 {
     let set = zonotope::empty();
+    let folded = [0u64; 6];
     State {
         set,
         next: FIRST_FRESH,
         count: 0,
         over: false,
+        folded,
     }
 }
 

@@ -3,7 +3,7 @@ use mathlib.Core.Path.{_≡_, refl, sym, _∙_, ap, ap₂, subst}
 use mathlib.Core.List.{List}
 use mathlib.Core.Option.{Option, none, some}
 use mathlib.Core.Bool.{Bool, true, false, cond, not, true≢false}
-use Prim.Native.Nat.{ℕ, zero, suc, _+_, _<_}
+use Prim.Native.Nat.{ℕ, zero, suc, _<_}
 use native.Mathlib.Omega.{arith}
 use borrow.Author.Tests.{le-ltb, lt-ltb, ne-eqb, eq-eqb}
 use lib.Dec.{ltb, eqb}
@@ -12,7 +12,7 @@ use Rattle.rational.specs.Sum.{All, All-imp}
 use Rattle.model.specs.Limits.{firstFresh, lastFresh, recordIdentifiers}
 use Rattle.model.specs.Set.{Zonotope}
 use Rattle.model.specs.Run as Model
-use Rattle.model.specs.Run.{current, refusal, meant, after, answer, firstOf}
+use Rattle.model.specs.Run.{current, refusal, meant, acceptedBy, refusedAt, after, answer, firstOf}
 use Rattle.model.specs.Library.{ofFirst, badNext}
 use Rattle.model.proofs.Tests.{false-any}
 use Rattle.model.proofs.Shape as Shape
@@ -52,7 +52,8 @@ module _ {u : Model.State} (s : Sound u) where
   -- it means that state
   pub viewed-record : viewed (recordOf u) ≡ u
   unfolding viewed
-  viewed-record = ap (λ x. record { set = x; next = u .next; count = u .count; over = u .over }) (by-count (u .count) refl)
+  viewed-record =
+      ap (λ x. record { set = x; next = u .next; count = u .count; over = u .over; folded = u .folded }) (by-count (u .count) refl)
     where
       by-count : (n : ℕ) → u .count ≡ n → cond (eqb (u .count) 0) none (some (view (pack (current u)))) ≡ u .set
       by-count zero e = rw (eq-eqb (u .count) 0 e) (sym (s .not-yet e))
@@ -66,10 +67,8 @@ over-keeps : (u : Model.State) (f : List ℕ) → after u f .over ≡ true → c
 unfolding after
 over-keeps u f = go (u .over) (refusal u f)
   where
-    go : (b : Bool) (o : Option ℕ) → (let x = cond b u (elim o [
-      | none ↦ record { set = some (meant u f .result); next = meant u f .next; count = u .count + 1; over = false }
-      | some n ↦ record { set = u .set; next = u .next; count = u .count; over = true }
-    ]) in x .over ≡ true → current u ≡ current x)
+    go : (b : Bool) (o : Option ℕ) → (let x = cond b u (elim o [ none ↦ acceptedBy u (meant u f) | some n ↦ refusedAt u ]) in
+        x .over ≡ true → current u ≡ current x)
     go true o e = refl
     go false none e = absurd (true≢false (sym e))
     go false (some n) e = refl
@@ -78,7 +77,8 @@ over-keeps u f = go (u .over) (refusal u f)
 left-record : (u : Model.State) (f : List ℕ) → left (recordOf u) (after u f) ≡ recordOf (after u f)
 unfolding left
 left-record u f =
-    let v = after u f in ap (λ x. record { set = x; next = v .next; count = v .count; over = v .over }) (go (v .over) refl)
+    let v = after u f in
+    ap (λ x. record { set = x; next = v .next; count = v .count; over = v .over; folded = v .folded }) (go (v .over) refl)
   where
     go : (b : Bool) → after u f .over ≡ b → cond b (pack (current u)) (pack (current (after u f))) ≡ pack (current (after u f))
     go true e = ap pack (over-keeps u f e)

@@ -1,13 +1,15 @@
 // The state of a run and its answers. A part of `run`.
 use zonotope::PolyZonotope;
 
-// The state of a run: the current set, the next fresh identifier (document 01: the mark), how many fields were accepted, and whether one
-// was refused. Before the first accepted field there is no set, and what stands in its place doesn't matter.
+// The state of a run: the current set, the next fresh identifier (document 01: the mark), how many fields were accepted, whether one was
+// refused, and for each coordinate what folding added to its radius in the accepted fields. Before the first accepted field there is no
+// set, and what stands in its place doesn't matter.
 pub struct State {
     pub set: PolyZonotope,
     pub next: u32,
     pub count: usize,
     pub over: bool,
+    pub folded: [u64; 6],
 }
 
 // A refused field: document 01's number, and the position of the field's first byte.

@@ -20,10 +20,10 @@ accepted-requires c κs =
     (s .pre .0 (c .before .enum-told .given .1), s .pre .1)
 
 returns : tie.Need-returns
-returns c = c .refused .ensures ∙ concluded-as _ _ _ _ _ _ (c .before .before .o .given .1)
+returns c = c .refused .ensures ∙ concluded-as _ _ _ _ _ _ _ (c .before .before .o .given .1)
 
 returns-2 : tie.Need-returns-2
-returns-2 c = c .accepted .ensures ∙ concluded-as _ _ _ _ _ _ (c .before .before .enum-told .given .1)
+returns-2 c = c .accepted .ensures ∙ concluded-as _ _ _ _ _ _ _ (c .before .before .enum-told .given .1)
 
 pub changed-spec : {M : Type 1} → statement M
 changed-spec =

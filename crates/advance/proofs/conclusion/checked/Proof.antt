@@ -5,12 +5,12 @@ use Rattle.whole.specs.Tab.{tab}
 use Rattle.advance.proofs.conclusion.checked.Statement.{statement}
 use Rattle.advance.proofs.conclusion.checked.Tie as tie
 
-add-t9 : tie.Need-add-t9
-add-t9 c = search needs
+add-t10 : tie.Need-add-t10
+add-t10 c = search needs
 
 returns : tie.Need-returns
 unfolding tab
 returns c = refl
 
 pub checked-spec : {M : Type 1} → statement M
-checked-spec = tie.close (tie.spec add-t9 returns)
+checked-spec = tie.close (tie.spec add-t10 returns)

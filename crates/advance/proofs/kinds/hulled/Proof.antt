@@ -2,7 +2,7 @@
 use native.Mathlib.Omega.{arith}
 use Rattle.model.specs.Field.{hull}
 use Rattle.advance.specs.Kinds.{not-last}
-use Rattle.advance.specs.CallLaws.{fresh-limits, hull-advanced}
+use Rattle.advance.specs.CallLaws.{fresh-leavable, hull-advanced}
 use Rattle.advance.proofs.kinds.hulled.Statement.{statement}
 use Rattle.advance.proofs.kinds.hulled.Tie as tie
 
@@ -15,7 +15,7 @@ add-changed c = let s = c .before .before .before in omega (arith, not-last (s .
 changed-requires : tie.Need-changed-requires
 changed-requires c κs =
     let s = c .before .before .before in
-    (fresh-limits (s .args .st) (s .pre .0) (s .pre .1) hull (s .args .body .now) (c .hull .ensures), s .pre .2)
+    (fresh-leavable (s .args .st) (s .pre .0) (s .pre .1) hull (s .args .body .now) (c .hull .ensures), s .pre .2)
 
 returns : tie.Need-returns
 returns c =

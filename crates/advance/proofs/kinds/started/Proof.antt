@@ -1,6 +1,6 @@
 -- `kinds::started` meets its contract.
 use borrow.Author.Needs.{needs}
-use Rattle.advance.specs.CallLaws.{start-limits, start-advanced}
+use Rattle.advance.specs.CallLaws.{start-leavable, start-advanced}
 use Rattle.advance.proofs.kinds.started.Statement.{statement}
 use Rattle.advance.proofs.kinds.started.Tie as tie
 
@@ -10,7 +10,7 @@ start-requires c κs = search needs
 changed-requires : tie.Need-changed-requires
 changed-requires c κs =
     let s = c .before .before in
-    (start-limits (s .args .st) (s .pre .0) (s .args .body .now) (c .start .ensures), s .pre .1)
+    (start-leavable (s .args .st) (s .pre .0) (s .args .body .now) (c .start .ensures), s .pre .1)
 
 returns : tie.Need-returns
 returns c =

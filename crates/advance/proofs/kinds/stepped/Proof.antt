@@ -1,12 +1,12 @@
 -- `kinds::stepped` meets its contract.
 use mathlib.Core.Path.{_≡_, sym, ap, _∙_}
-use mathlib.Core.Bool.{_&&_}
+use mathlib.Core.Bool.{true, _&&_}
 use Rattle.zonotope.specs.Record.{view}
 use Rattle.stepping.specs.Work.{worked}
 use Rattle.fields.specs.Refusal.{bodyRefusal, resultOf}
 use Rattle.fields.specs.Steps.{stepKind}
 use Rattle.advance.specs.Kinds.{plain-stepped, stepped-works}
-use Rattle.advance.specs.CallLaws.{made-limits, made-advanced, worked-told, worked-said, step-used}
+use Rattle.advance.specs.CallLaws.{made-leavable, made-advanced, worked-told, worked-said, step-used}
 use borrow.Author.Needs.{needs}
 use Rattle.advance.proofs.kinds.stepped.Statement.{statement}
 use Rattle.advance.proofs.kinds.stepped.Tie as tie
@@ -36,8 +36,8 @@ was-worked-requires c κs = search needs
 changed-requires : tie.Need-changed-requires
 changed-requires c κs =
     let t = called c in let s = start t in (
-      made-limits (s .args .st) (s .pre .0) (s .pre .1) (plain-stepped (s .args .ranged)) (s .args .body .now)
-          (t .step .ensures .0),
+      made-leavable (s .args .st) (s .pre .0) (s .pre .1) (plain-stepped (s .args .ranged)) (s .args .body .now)
+          (t .step .ensures .0) (stepped-works (s .args .ranged) .1),
       s .pre .2,
     )
 
@@ -50,11 +50,12 @@ same-length-2 c = search needs
 returns : tie.Need-returns
 returns c =
     let t = called (c .before) in let s = start t in let a = s .args in
-    let yes = worked-said (a .st) (a .place) (a .bytes) (a .st .next) (t .step .result) (c .before .was-worked .result)
+    let yes = worked-said (a .st) (a .place) (a .bytes) (a .st .next) (t .step .result) true (c .before .was-worked .result)
     (c .changed .ensures) ∙ told (c .before) in
-    let steps = ap (_&& worked (bodyRefusal (stepKind (a .ranged)) (a .body .now) 0 (view (a .st .set)))) (stepped-works (a .ranged)) in (
+    let kind = stepped-works (a .ranged) in
+    let steps = ap (_&& worked (bodyRefusal (stepKind (a .ranged)) (a .body .now) 0 (view (a .st .set)))) (kind .0) in (
       made-advanced (a .st) (s .pre .0) (s .pre .1) (plain-stepped (a .ranged)) (a .body .now) (t .step .ensures .0)
-          (a .place) (a .bytes) (told (c .before) ∙ sym steps) (c .changed .ensures),
+          (a .place) (a .bytes) (kind .1) (told (c .before) ∙ sym steps) (c .changed .ensures),
       (step-used yes (t .step .ensures .1 .0), step-used yes (t .step .ensures .1 .1)),
     )
 

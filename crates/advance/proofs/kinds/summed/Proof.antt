@@ -5,7 +5,7 @@ use native.Mathlib.Omega.{arith}
 use lib.ListN.{length}
 use Rattle.advance.specs.Kinds.{not-last}
 use Rattle.model.specs.Field.{independent}
-use Rattle.advance.specs.CallLaws.{sum-next, fresh-limits, sum-refused, sum-accepted, sum-long}
+use Rattle.advance.specs.CallLaws.{sum-next, fresh-leavable, sum-refused, sum-accepted, sum-long}
 use borrow.Author.Needs.{needs}
 use Rattle.advance.proofs.kinds.summed.Statement.{statement}
 use Rattle.advance.proofs.kinds.summed.Tie as tie
@@ -45,7 +45,8 @@ add-accepted c =
 accepted-requires : tie.Need-accepted-requires
 accepted-requires c κs =
     let t = c .before .before in let i = t .before .before in let s = start i in (
-      fresh-limits (s .args .st) (s .pre .0) (s .pre .1) independent (s .args .body .now) (i .independent .ensures) (t .enum-told .given .1),
+      fresh-leavable (s .args .st) (s .pre .0) (s .pre .1) independent (s .args .body .now) (i .independent .ensures)
+          (t .enum-told .given .1),
       s .pre .2,
     )
 

@@ -1,24 +1,30 @@
 -- `fitness::of_range` meets its contract.
-use mathlib.Core.Path.{sym, _∙_}
-use Rattle.zonotope.specs.Answer.{refused}
-use Rattle.run.specs.Unfit.{first-out, first-in}
-use Rattle.run.specs.Fitness.{first-running}
 use borrow.Author.Needs.{needs}
+use mathlib.Core.Path.{_≡_, sym, _∙_, ap}
+use lib.ListN.{length}
+use Rattle.model.specs.Run.{firstOf}
+use Rattle.zonotope.specs.Answer.{examined, accepted}
+use Rattle.run.specs.Unfit.{ofRest, first-order}
+use Rattle.run.specs.Fitness.{first-running}
 use Rattle.run.proofs.fitness.of_range.Statement.{statement}
 use Rattle.run.proofs.fitness.of_range.Tie as tie
+
+six : (s : tie.Start) → length (s .args .st .folded) ≡ 6
+six s = search needs
 
 out-of-range-requires : tie.Need-out-of-range-requires
 out-of-range-requires c κs = search needs
 
+of-rest-requires : tie.Need-of-rest-requires
+of-rest-requires c κs = search needs
+
 returns : tie.Need-returns
 returns c =
-    let s = c .before .before in
-    (first-out (s .args .st) (s .pre) (sym (c .before .out-of-range .ensures) ∙ c .if1 .taken), λ e. refused 11 e)
-
-returns-2 : tie.Need-returns-2
-returns-2 c =
-    let s = c .before .before in let in-range = sym (c .before .out-of-range .ensures) ∙ c .if1 .left in
-    (first-in (s .args .st) (s .pre) in-range, λ e. first-running (s .args .st) (s .pre) in-range)
+    let n = c .before in let s = n .before .before in let st = s .args .st in
+    let answer = c .of-rest .ensures ∙ ap (λ b. examined (firstOf (ofRest b (st .folded)))) (n .out-of-range .ensures) in (
+      answer ∙ sym (ap examined (first-order st (s .pre))),
+      λ e. first-running st (s .pre) (six s) (accepted _ (sym answer ∙ e)),
+    )
 
 pub of-range-spec : {M : Type 1} → statement M
-of-range-spec = tie.close (tie.spec out-of-range-requires returns returns-2)
+of-range-spec = tie.close (tie.spec out-of-range-requires of-rest-requires returns)
