@@ -3,11 +3,11 @@ use mathlib.Core.Path.{_≡_, refl, sym, ap, ap₂, _∙_, subst}
 use mathlib.Core.List.{List}
 use mathlib.Core.Option.{Option, none, some}
 use mathlib.Core.Bool.{Bool, true, false, cond, true≢false}
-use Prim.Native.Nat.{ℕ, _+_, _<_}
+use Prim.Native.Nat.{ℕ, _<_}
 use native.Mathlib.Omega.{arith}
 use lib.Dec.{eqb}
 use Rattle.model.specs.Run as Model
-use Rattle.model.specs.Run.{after, refusal, meant, current}
+use Rattle.model.specs.Run.{after, refusal, meant, current, acceptedBy, refusedAt}
 use Rattle.model.proofs.Sound.{Sound, after-sound}
 use Rattle.zonotope.specs.Record.{view, pack}
 use Rattle.states.specs.declared.State.{State}
@@ -19,10 +19,8 @@ over-keeps : (u : Model.State) (f : List ℕ) → after u f .over ≡ true → (
 unfolding after
 over-keeps u f = go (u .over) (refusal u f)
   where
-    go : (b : Bool) (o : Option ℕ) → (let x = cond b u (elim o [
-      | none ↦ record { set = some (meant u f .result); next = meant u f .next; count = u .count + 1; over = false }
-      | some n ↦ record { set = u .set; next = u .next; count = u .count; over = true }
-    ]) in x .over ≡ true → (x .set ≡ u .set) × (x .count ≡ u .count))
+    go : (b : Bool) (o : Option ℕ) → (let x = cond b u (elim o [ none ↦ acceptedBy u (meant u f) | some n ↦ refusedAt u ]) in
+        x .over ≡ true → (x .set ≡ u .set) × (x .count ≡ u .count))
     go true o e = (refl, refl)
     go false none e = absurd (true≢false (sym e))
     go false (some n) e = (refl, refl)
@@ -30,13 +28,19 @@ over-keeps u f = go (u .over) (refusal u f)
 -- what is left where the run isn't over, and where it is
 left-accepted : (st : State) (v : Model.State) → v .over ≡ false → left st v ≡ recordOf v
 unfolding left
-left-accepted st v e = ap (λ x. record { set = cond x (st .set) (pack (current v)); next = v .next; count = v .count; over = v .over }) e
+left-accepted st v e = ap (λ x. record {
+  set = cond x (st .set) (pack (current v));
+  next = v .next;
+  count = v .count;
+  over = v .over;
+  folded = v .folded;
+}) e
 
 left-refused : (st : State) (v : Model.State) → v .over ≡ true → v .set ≡ viewed st .set → v .count ≡ viewed st .count
     → viewed (left st v) ≡ v
 unfolding left viewed
 left-refused st v e h k =
-    ap (λ x. record { set = x; next = v .next; count = v .count; over = v .over })
+    ap (λ x. record { set = x; next = v .next; count = v .count; over = v .over; folded = v .folded })
     (ap₂ (λ b n. cond (eqb n 0) none (some (view (cond b (st .set) (pack (current v)))))) e k ∙ sym h)
 
 left-kept : (st : State) (v : Model.State) → v .over ≡ true → v .count ≡ st .count → (0 < st .count → pack (view (st .set)) ≡ st .set)

@@ -10,7 +10,7 @@ use lib.ListN.{length, drop, length-append, length-take}
 use lib.Seq.{take-nil}
 use Rattle.model.specs.Run as Model
 use Rattle.model.specs.Run.{tag, cut, after, answer, fieldLength, firstField}
-use Rattle.model.specs.Text.{endLine, closing, lineOf}
+use Rattle.model.specs.Text.{closing, lineOf}
 use Rattle.model.specs.Rest.{fieldsLeft, printedFrom}
 use Rattle.model.proofs.Tests.{and-true}
 use Rattle.model.proofs.Sound.{Sound, after-sound}
@@ -88,8 +88,8 @@ module _ (p : Progress) (r : Reached p) where
         omega (arith, eqb-false (p .state .count) 0 (not-true none (and-true true (not none) e .1))) in
         ap (λ b. cond b [] (printedFrom (p .place) (viewed (p .state)) [])) on
         ∙ last-line (p .place) (viewed (p .state)) some-taken
-        ∙ ap (λ b. cond b [] (endLine (p .state .count - 1))) (r .going on)
-        ∙ sym (append-nil (endLine (p .state .count - 1)))
+        ∙ ap (λ b. cond b [] (closed p .text)) (r .going on)
+        ∙ sym (append-nil (closed p .text))
     closed-prints (t ∷ l) e =
         absurd (omega (arith, eqb-true (length (t ∷ l)) 0 (and-true _ (not (eqb (p .state .count) 0)) e .0)))
 

@@ -49,6 +49,8 @@ running p r = record {
   set = λ h. subst AcceptedRecord (r .packed h)
       (accepted-pack (view (p .state .set)) (subst (Valid recordIdentifiers) (current-is (p .state) h) (r .sound .valid h)));
   next = next-fits (r .sound);
+  six-totals = r .sound .six-totals;
+  totals = λ i. omega (arith, r .sound .spans-most i, r .sound .count-in);
 }
 
 -- what is answered and left

@@ -5,7 +5,7 @@ use Prim.Native.Nat.{ℕ, zero, suc, _+_, _-_}
 use lib.Dec.{ltb, eqb}
 use lib.ListN.{length, drop}
 use Rattle.model.specs.Run.{tag, cut, firstField}
-use Rattle.model.specs.Text.{endLine}
+use Rattle.model.specs.Text.{foldedLine, endLine}
 use Rattle.text.specs.Lines.{longestLine}
 use Rattle.states.specs.State.{beginning}
 use Rattle.states.specs.Taken.{taken}
@@ -31,12 +31,12 @@ abbrev pub then : Turns → Turns → Turns
 then a b = record { progress = b .progress; used = a .used + b .used; text = a .text ++ b .text }
 
 -- ---- one turn
--- the input ended between fields: the `end` line is the last one
+-- the input ended between fields: the totals and the `end` line are the last ones
 abbrev pub closed : Progress → Turns
 closed p = record {
   progress = record { state = p .state; place = p .place; done = true };
   used = 0;
-  text = endLine (p .state .count - 1);
+  text = foldedLine (p .state .folded) ++ endLine (p .state .count - 1);
 }
 
 -- the field f is taken: its line, which is the last one where it is refused

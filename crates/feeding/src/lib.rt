@@ -94,13 +94,13 @@ fn turn(
     take(p, rest, bytes, out, at, numbers, exponents)
 }
 
-// The `end` line.
+// The totals of what folding added, and the `end` line.
 fn close(p: Progress, out: &mut [u8], at: usize) -> Fed
     requires { ⌜ (1 ≤ p .state .count) × (at + longestLine ≤ length (now out)) ⌝ }
     ensures { λ r. ⌜ Done longestLine (closed p) (now (out .entry)) (now (out .exit)) at r ⌝ }
 {
     let state = p.state;
-    let written = text::end_line(out, at, state.count - 1);
+    let written = text::closing_lines(out, at, &state.folded, state.count - 1);
     Fed {
         progress: Progress {
             state,

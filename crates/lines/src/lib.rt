@@ -3,7 +3,7 @@
 ghost use mathlib.Core.Path.{_≡_};
 ghost use Prim.Native.Nat.{min};
 ghost use lib.ListN.{length};
-ghost use Rattle.model.specs.Text.{boxLine, verdictLine, refusalLine, endLine};
+ghost use Rattle.model.specs.Text.{boxLine, verdictLine, refusalLine, foldedLine, endLine};
 ghost use Rattle.text.specs.Pieces.{firsts};
 ghost use Rattle.text.specs.Lines.{longestLine};
 ghost use Rattle.lines.specs.Put.{Put};
@@ -46,6 +46,15 @@ pub fn refusal_line(out: &mut [u8], field: usize, number: u8, place: usize) -> W
 {
     let mut line = blank();
     let k = text::refusal_line(&mut line, 0, field, number, place);
+    put(out, &line[..k])
+}
+
+// The line before the last: for each coordinate what folding added to its radius.
+pub fn folded_line(out: &mut [u8], totals: &[u64; 6]) -> Written
+    ensures { λ r. ⌜ Put r (now (out .entry)) (now (out .exit)) (foldedLine (now (totals .entry))) ⌝ }
+{
+    let mut line = blank();
+    let k = text::folded_line(&mut line, 0, totals);
     put(out, &line[..k])
 }
 

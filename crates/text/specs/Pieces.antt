@@ -1,12 +1,14 @@
 -- The pieces of which lines are made.
 use mathlib.Core.Path.{_≡_, refl, sym, ap, ap₂, _∙_, subst}
 use mathlib.Core.Bool.{Bool, true, false, true≢false}
-use mathlib.Core.List.{List, [], _∷_, _++_, append-assoc, append-nil}
-use Prim.Native.Nat.{ℕ, zero, suc, _+_}
+use mathlib.Core.List.{List, [], _∷_, _++_, map, map-append, append-assoc, append-nil}
+use Prim.Native.Nat.{ℕ, zero, suc, _+_, _*_, _<_, _≤_}
 use native.Mathlib.Numerals.{add-one}
 use native.Mathlib.Omega.{arith}
 use borrow.Author.Tests.{ltb-true}
 use lib.IntN.{ℤ, pos, negsuc, natAbs}
+use lib.ListN.{length, getD, take}
+use lib.Seq.{take-suc, take-all}
 use lib.Signed.{ltZ}
 use Rattle.whole.specs.Tab.{tab}
 use Rattle.model.specs.Set.{at}
@@ -28,6 +30,10 @@ firsts n v = tab n (at v)
 unfoldable pub spaced : List (List ℕ) → List ℕ
 spaced [] = []
 spaced (w ∷ ws) = ascii " " ++ (w ++ spaced ws)
+
+-- the first n of some numbers, each after a space
+abbrev pub items : ℕ → List ℕ → List ℕ
+items n ns = spaced (map decimal (take n ns))
 
 -- ---- a signed number, by its sign and its size
 pub negative-put : {a b c : List ℕ} {i j k : ℕ} (z : ℤ) (n : ℕ) → ltZ z (pos 0) ≡ true → n ≡ natAbs z
@@ -76,3 +82,30 @@ pub ends-put : {most : ℕ} {a b c d : List ℕ} {i j k l : ℕ} (low high : ℕ
 ends-put low high n y z p q r e f =
     named (omega arith) (ap₂ (λ u v. spaced (ends (tab n low) (tab n high)) ++ (signedItem u ++ signedItem v)) e f
     ∙ ends-more low high n ∙ ap (λ m. spaced (ends (tab m low) (tab m high))) (sym (add-one n))) (both p (both q r))
+
+-- ---- numbers, one a turn
+spaced-append : (xs ys : List (List ℕ)) → spaced (xs ++ ys) ≡ spaced xs ++ spaced ys
+unfolding spaced ascii
+spaced-append [] ys = refl
+spaced-append (x ∷ xs) ys = ap (32 ∷_) (ap (x ++_) (spaced-append xs ys) ∙ sym (append-assoc x (spaced xs) (spaced ys)))
+
+pub no-items : (ns : List ℕ) → [] ≡ items 0 ns
+unfolding spaced
+no-items ns = refl
+
+one-item : (n : ℕ) → spaced (decimal n ∷ []) ≡ item n
+unfolding spaced
+one-item n = ap (ascii " " ++_) (append-nil (decimal n))
+
+items-more : (ns : List ℕ) (i : ℕ) → i < length ns → items i ns ++ item (getD ns i 0) ≡ items (i + 1) ns
+items-more ns i h =
+    ap (items i ns ++_) (sym (one-item (getD ns i 0)))
+    ∙ sym (ap spaced (ap (λ k. map decimal (take k ns)) (add-one i) ∙ ap (map decimal) (take-suc ns i 0 h)
+    ∙ map-append decimal (take i ns) (getD ns i 0 ∷ [])) ∙ spaced-append (map decimal (take i ns)) (decimal (getD ns i 0) ∷ []))
+
+pub items-put : {a b c : List ℕ} {p q r : ℕ} (ns : List ℕ) (i : ℕ) → i < length ns → Appended (21 * i) a b p q (items i ns)
+    → Appended 21 b c q r (item (getD ns i 0)) → Appended (21 * (i + 1)) a c p r (items (i + 1) ns)
+items-put ns i h x y = named (omega arith) (items-more ns i h) (both x y)
+
+pub items-all : (ns : List ℕ) (n : ℕ) → length ns ≤ n → items n ns ≡ spaced (map decimal ns)
+items-all ns n h = ap (λ l. spaced (map decimal l)) (take-all n ns h)

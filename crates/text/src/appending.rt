@@ -1,6 +1,6 @@
 // The pieces of a line: bytes and decimal numbers, put into a lent slice one after the other.
 // Each function writes from the place `at` on and answers the place after its piece.
-ghost use mathlib.Core.List.{[], _∷_};
+ghost use mathlib.Core.List.{[], _∷_, map};
 ghost use Prim.Native.Nat.{_+_, _≤_};
 ghost use lib.ListN.{length};
 ghost use Rattle.model.specs.Text.{decimal, signedDecimal, following, verdictWord, ends};
@@ -82,6 +82,18 @@ pub fn append_ends(out: &mut [u8], at: usize, n: usize, low: &[i64; 6], high: &[
     for i in 0..n {
         let a = append_signed_item(out, o, low[i]);
         o = append_signed_item(out, a, high[i]);
+    }
+    o
+}
+
+// Six numbers, each after a space.
+pub fn append_items(out: &mut [u8], at: usize, numbers: [u64; 6]) -> usize
+    requires { ⌜ at + 126 ≤ length (now out) ⌝ }
+    ensures { λ r. ⌜ Appended 126 (now (out .entry)) (now (out .exit)) at r (spaced (map decimal numbers)) ⌝ }
+{
+    let mut o = at;
+    for i in 0..6 {
+        o = append_item(out, o, numbers[i]);
     }
     o
 }
