@@ -54,6 +54,6 @@ fn ends(set: &Set, direction: &[i128]) -> (i128, i128) {
         }
     }
     let generators: i128 = set.generators.iter().map(|g| dot(direction, g).abs()).sum();
-    let radii: i128 = direction.iter().zip(&set.radii).map(|(a, r)| a.abs() * r).sum();
+    let radii: i128 = direction.iter().zip(set.radii()).map(|(a, r)| a.abs() * r).sum();
     (low - generators - radii, high + generators + radii)
 }

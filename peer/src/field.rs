@@ -2,7 +2,7 @@
 
 use crate::bounds::{Halfspace, MAX_HALFSPACES};
 use crate::finish::Limits;
-use crate::set::{Set, Term, MAX_DIMENSION, MAX_FACTORS, MAX_GENERATORS, MAX_TERMS};
+use crate::set::{all_given, Set, Term, MAX_DIMENSION, MAX_FACTORS, MAX_GENERATORS, MAX_TERMS};
 use crate::step::{HalfWidths, Ranged, Step};
 
 pub const HEADER: usize = 3;
@@ -166,7 +166,7 @@ fn push_set(body: &mut Vec<u8>, set: &Set) {
         push_words(body, &term.coefficients);
     }
     set.generators.iter().for_each(|generator| push_words(body, generator));
-    push_words(body, &set.radii);
+    push_words(body, &set.radii());
 }
 
 fn push_step(body: &mut Vec<u8>, step: &Step) {
@@ -218,7 +218,7 @@ impl Reader<'_> {
                 .map(|_| Term { exponents: (0..p).map(|_| self.count() as u32).collect(), coefficients: self.words(n) })
                 .collect(),
             generators: (0..q).map(|_| self.words(n)).collect(),
-            radii: self.words(n),
+            radius_parts: all_given(self.words(n)),
         }
     }
 

@@ -25,20 +25,24 @@ pub struct Finished {
     /// For each generator that remains, its place in the list before finishing.
     pub kept: Vec<usize>,
     pub folds: Folds,
+    /// What folding added to each coordinate's radius.
+    pub folded: Vec<i128>,
 }
 
 impl Finished {
     /// A set that needs no finishing.
     pub fn as_it_is(set: Set) -> Finished {
         let kept = (0..set.generators.len()).collect();
-        Finished { set, kept, folds: Folds::default() }
+        let folded = vec![0; set.dimension()];
+        Finished { set, kept, folds: Folds::default(), folded }
     }
 }
 
 /// Sort and collect, drop zeros, fold high exponents, fold the smallest, drop unused factors.
 pub fn finish(set: Set, limits: Limits) -> Finished {
     let mut folds = Folds::default();
-    let Set { identifiers, mut centre, terms, generators, mut radii } = set;
+    let Set { identifiers, mut centre, terms, generators, mut radius_parts } = set;
+    let mut folded = vec![0; centre.len()];
 
     let mut collected = collect(terms);
     collected.retain(|t| t.coefficients.iter().any(|g| *g != 0));
@@ -49,24 +53,27 @@ pub fn finish(set: Set, limits: Limits) -> Finished {
         collected.into_iter().partition(|t| t.exponents.iter().any(|e| *e > MAX_EXPONENT));
     folds.by_exponent = high.len();
     for term in &high {
-        fold_term(term, &mut centre, &mut radii);
+        fold_term(term, &mut centre, &mut folded);
     }
 
     let (small, terms) = split_smallest(rest, limits.terms, |t| size(&t.coefficients));
     folds.by_size = small.len();
     for term in &small {
-        fold_term(term, &mut centre, &mut radii);
+        fold_term(term, &mut centre, &mut folded);
     }
 
     let (small, generators) = split_smallest(generators, limits.generators, |(_, g)| size(g));
     folds.generators = small.len();
     for (_, generator) in &small {
-        fold_generator(generator, &mut radii);
+        fold_generator(generator, &mut folded);
     }
 
+    for (parts, added) in radius_parts.iter_mut().zip(&folded) {
+        parts.folded += added;
+    }
     let (kept, generators) = generators.into_iter().unzip();
-    let set = drop_unused_factors(Set { identifiers, centre, terms, generators, radii });
-    Finished { set, kept, folds }
+    let set = drop_unused_factors(Set { identifiers, centre, terms, generators, radius_parts });
+    Finished { set, kept, folds, folded }
 }
 
 /// Terms in the order of their exponents, those with equal exponents added up.

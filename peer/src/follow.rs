@@ -164,7 +164,7 @@ impl Motion {
         let point = add(&polynomial(body, identifiers, &self.values), &generated(body, &numbers));
         self.place = if self.place.is_empty() { point } else { add(&self.place, &point) };
         self.numbers.extend(numbers);
-        self.add_offsets(&body.radii);
+        self.add_offsets(&body.radii());
     }
 
     /// The step's polynomial without rounding, each coefficient picked within its half-width of the entry.
@@ -258,8 +258,9 @@ impl Motion {
     fn is_in(&self, set: &Set) -> bool {
         let rest = subtract(&self.place, &polynomial(set, &set.identifiers, &self.values));
         let offset = subtract(&rest, &generated(set, &self.numbers));
-        let within = offset.iter().zip(&set.radii).all(|(x, r)| x.abs() <= Fraction::from(*r));
-        within || contains(&set.generators, &set.radii, &rest)
+        let radii = set.radii();
+        let within = offset.iter().zip(&radii).all(|(x, r)| x.abs() <= Fraction::from(*r));
+        within || contains(&set.generators, &radii, &rest)
     }
 }
 

@@ -3,7 +3,7 @@
 
 use crate::finish::{finish, Finished, FULL};
 use crate::set::{Set, Term, MAX_FACTORS};
-use crate::step::{ceiling, is_inexact, round, ROUND};
+use crate::step::{image_radius, is_inexact, round, ROUND};
 use crate::sums::{add, terms_over, union};
 
 /// A new factor, numbered `mark`, blends the two: it is 1 at the first set and -1 at the second. Equal identifiers are
@@ -33,7 +33,7 @@ pub fn hull(first: &Set, second: &Set, mark: i128) -> Option<Finished> {
         }
     }
     let larger = |i: usize| first.independent_part(i).max(second.independent_part(i));
-    let radii = inexact.iter().enumerate().map(|(i, count)| larger(i) + ceiling(*count, 2)).collect();
+    let radius_parts = inexact.iter().enumerate().map(|(i, count)| image_radius(larger(i), *count)).collect();
     identifiers.push(mark);
-    Some(finish(Set { identifiers, centre, terms, generators: Vec::new(), radii }, FULL))
+    Some(finish(Set { identifiers, centre, terms, generators: Vec::new(), radius_parts }, FULL))
 }

@@ -1,5 +1,6 @@
-//! A second implementation of document 01 and of document 02's hull, ranged step and rounding, from their words alone,
-//! in the plainest style: wide integers and vectors. It is what the proved program is held against.
+//! A second implementation of document 01 and of document 02's hull, ranged step, rounding and parts of the radius,
+//! from their words alone, in the plainest style: wide integers and vectors. It is what the proved program is held
+//! against.
 
 pub mod bounds;
 pub mod command;

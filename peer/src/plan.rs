@@ -34,7 +34,7 @@ use crate::bounds::{Halfspace, MAX_HALFSPACES};
 use crate::field::Field;
 use crate::finish::Limits;
 use crate::number::{count, Kind, BOUND, BYTE, IDENTIFIER, WORD};
-use crate::set::{Set, Term, MAX_DIMENSION, MAX_FACTORS, MAX_GENERATORS, MAX_TERMS};
+use crate::set::{all_given, Set, Term, MAX_DIMENSION, MAX_FACTORS, MAX_GENERATORS, MAX_TERMS};
 use crate::step::{HalfWidths, Ranged, Step};
 
 /// Repeats that give more bytes than the longest run has, or nest deeper, are taken for a slip.
@@ -270,7 +270,7 @@ fn set(head: &Line, parts: &[Line], n: usize) -> Result<Set, PlanError> {
         centre: vector(parts, "centre", n)?,
         terms,
         generators: several(parts, "generator", MAX_GENERATORS, |p| p.exactly(&p.words, n, WORD))?,
-        radii: vector(parts, "radii", n)?,
+        radius_parts: all_given(vector(parts, "radii", n)?),
         identifiers,
     })
 }

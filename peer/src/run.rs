@@ -4,7 +4,7 @@ use crate::bounds::{bounding_box, is_safe};
 use crate::field::{count_bytes, counts_fit, decode, expected_length, is_known_tag, Field, HEADER};
 use crate::finish::{finish, Finished, Folds};
 use crate::hull::hull;
-use crate::set::Set;
+use crate::set::{all_given, Set};
 use crate::step::CONSTANT_LIMIT;
 use crate::sums::{add, independent_sum, tied_sum};
 
@@ -70,6 +70,8 @@ pub struct Accepted {
     /// stands after the set; a hull has none.
     pub kept: Vec<usize>,
     pub folds: Folds,
+    /// What folding added to each coordinate's radius.
+    pub folded: Vec<i128>,
 }
 
 pub struct Run<'a> {
@@ -97,8 +99,8 @@ impl<'a> Run<'a> {
         self.place += length;
         let number = self.number;
         self.number += 1;
-        let Finished { set, kept, folds } = finished;
-        Ok(Accepted { number, field, outcome, set, mark, kept, folds })
+        let Finished { set, kept, folds, folded } = finished;
+        Ok(Accepted { number, field, outcome, set, mark, kept, folds, folded })
     }
 }
 
@@ -161,7 +163,10 @@ pub fn apply(field: &Field, state: &State) -> Result<(Finished, i128), Cause> {
     let finished = match field {
         Field::Step(step) => step.apply(set),
         Field::Ranged(ranged) => ranged.apply(set),
-        Field::Disturbance(radii) => Finished::as_it_is(Set { radii: add(&set.radii, radii), ..set.clone() }),
+        Field::Disturbance(radii) => {
+            let radius_parts = add(&set.radius_parts, &all_given(radii.iter().copied()));
+            Finished::as_it_is(Set { radius_parts, ..set.clone() })
+        }
         Field::Independent(body) => {
             mark += body.identifiers.len() as i128;
             independent_sum(set, body, state.mark).ok_or(Cause::Factors)?

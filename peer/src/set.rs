@@ -1,6 +1,8 @@
 //! The set: a polynomial zonotope with generators and a box of radii around it, in whole units of
 //! 1/4096 of the user's unit (document 01: grains).
 
+use std::ops::Add;
+
 pub const MAX_DIMENSION: usize = 6;
 pub const MAX_FACTORS: usize = 12;
 pub const MAX_TERMS: usize = 40;
@@ -29,8 +31,50 @@ pub struct Set {
     pub centre: Vec<i128>,
     pub terms: Vec<Term>,
     pub generators: Vec<Vec<i128>>,
-    /// Half the width of the surrounding box in each coordinate (document 01: the skirt).
-    pub radii: Vec<i128>,
+    /// Half the width of the surrounding box in each coordinate (document 01: the skirt), in its parts.
+    pub radius_parts: Vec<RadiusParts>,
+}
+
+/// Where a coordinate's radius comes from (document 02, A.4): it is the sum of these.
+#[derive(Clone, Copy, Debug, Default, PartialEq, Eq)]
+pub struct RadiusParts {
+    /// What the last step or hull made of the radii and generators before it, and of half-widths.
+    pub carried: i128,
+    /// What its roundings may have lost.
+    pub rounded: i128,
+    /// What folding has added since then.
+    pub folded: i128,
+    /// What set bodies and disturbances have added since then.
+    pub given: i128,
+}
+
+impl RadiusParts {
+    pub fn radius(&self) -> i128 {
+        self.carried + self.rounded + self.folded + self.given
+    }
+
+    fn is_in_range(&self) -> bool {
+        [self.carried, self.rounded, self.folded, self.given].iter().all(|part| *part >= 0)
+    }
+}
+
+/// Like parts are added.
+impl Add for RadiusParts {
+    type Output = RadiusParts;
+
+    fn add(self, other: RadiusParts) -> RadiusParts {
+        RadiusParts {
+            carried: self.carried + other.carried,
+            rounded: self.rounded + other.rounded,
+            folded: self.folded + other.folded,
+            given: self.given + other.given,
+        }
+    }
+}
+
+/// The parts of radii that a body states.
+pub fn all_given(radii: impl IntoIterator<Item = i128>) -> Vec<RadiusParts> {
+    radii.into_iter().map(|given| RadiusParts { given, ..RadiusParts::default() }).collect()
 }
 
 impl Set {
@@ -46,7 +90,11 @@ impl Set {
 
     /// How far generators and radius reach in coordinate `i`.
     pub fn independent_part(&self, i: usize) -> i128 {
-        self.generators.iter().map(|g| g[i].abs()).sum::<i128>() + self.radii[i]
+        self.generators.iter().map(|g| g[i].abs()).sum::<i128>() + self.radius_parts[i].radius()
+    }
+
+    pub fn radii(&self) -> Vec<i128> {
+        self.radius_parts.iter().map(RadiusParts::radius).collect()
     }
 
     pub fn is_too_wide(&self) -> bool {
@@ -57,7 +105,7 @@ impl Set {
     pub fn is_in_range(&self) -> bool {
         let identifiers = self.identifiers.iter().all(|id| (1..=MAX_FILE_IDENTIFIER).contains(id));
         let exponents = self.terms.iter().all(|t| t.exponents.iter().all(|e| *e <= MAX_EXPONENT));
-        identifiers && exponents && self.radii.iter().all(|r| *r >= 0)
+        identifiers && exponents && self.radius_parts.iter().all(RadiusParts::is_in_range)
     }
 
     /// The ordering and zero rules, and no factor that occurs in no term.

@@ -5,7 +5,7 @@ use std::fmt::Write;
 
 use crate::field::{count_bytes, counts_fit, decode, expected_length, is_known_tag, Field, HEADER};
 use crate::step::{Ranged, Step};
-use crate::text::{joined, labelled, set_lines};
+use crate::text::{body_lines, joined, labelled};
 
 const RAW_BYTES_A_LINE: usize = 24;
 
@@ -46,10 +46,10 @@ fn well_formed(input: &[u8]) -> Option<(Field, usize)> {
 
 fn block(field: &Field) -> (String, Vec<String>) {
     match field {
-        Field::Start(set) => (format!("start {}", set.dimension()), set_lines(set)),
-        Field::Independent(set) => (format!("independent {}", set.dimension()), set_lines(set)),
-        Field::Tied(set) => (format!("tied {}", set.dimension()), set_lines(set)),
-        Field::Hull(set) => (format!("hull {}", set.dimension()), set_lines(set)),
+        Field::Start(set) => (format!("start {}", set.dimension()), body_lines(set)),
+        Field::Independent(set) => (format!("independent {}", set.dimension()), body_lines(set)),
+        Field::Tied(set) => (format!("tied {}", set.dimension()), body_lines(set)),
+        Field::Hull(set) => (format!("hull {}", set.dimension()), body_lines(set)),
         Field::Step(step) => step_block("step", step),
         Field::Ranged(Ranged { step, half_widths }) => {
             let (head, mut parts) = step_block("ranged", step);

@@ -3,7 +3,7 @@
 use std::cmp::Ordering;
 
 use crate::finish::{finish, Finished, FULL};
-use crate::set::{Set, Term};
+use crate::set::{RadiusParts, Set, Term};
 
 pub const UNIT: i128 = 4096;
 /// One whole unit of a product of two numbers in 1/4096.
@@ -79,7 +79,7 @@ impl Step {
             centre: Vec::new(),
             terms: image_terms(set),
             generators: vec![Vec::new(); set.generators.len()],
-            radii: Vec::new(),
+            radius_parts: Vec::new(),
         };
         for i in 0..self.constant.len() {
             self.push_coordinate(i, half_widths, set, &mut image);
@@ -119,7 +119,7 @@ impl Step {
             image.push(rounded(linear(generator)));
         }
         let rest = rest(row, form, set) + gain(&half_widths.matrix[i], &half_widths.forms[i], set);
-        image.radii.push(ceiling(rest, ROUND) + ceiling(inexact, 2));
+        image.radius_parts.push(image_radius(ceiling(rest, ROUND), inexact));
     }
 }
 
@@ -157,7 +157,7 @@ fn image_terms(set: &Set) -> Vec<Term> {
 fn rest(row: &[i128], form: &[Vec<i128>], set: &Set) -> i128 {
     let n = set.dimension();
     let k = &set.centre;
-    let w = &set.radii;
+    let w = set.radii();
     let d: Vec<i128> = (0..n).map(|j| set.terms.iter().map(|t| t.coefficients[j].abs()).sum()).collect();
     let r: Vec<i128> = (0..n).map(|j| set.independent_part(j)).collect();
     let mut sum = 0;
@@ -185,7 +185,13 @@ fn quadratic(form: &[Vec<i128>], x: &[i128], y: &[i128]) -> i128 {
     form.iter().zip(x).map(|(row, x)| x * dot(row, y)).sum()
 }
 
+/// The radius of a step's or a hull's image before finishing: what is carried over, and half a unit for each inexact
+/// rounding (document 02, A.4).
+pub fn image_radius(carried: i128, inexact: i128) -> RadiusParts {
+    RadiusParts { carried, rounded: ceiling(inexact, 2), folded: 0, given: 0 }
+}
+
 /// v / divisor rounded up, for v of 0 or more.
-pub fn ceiling(v: i128, divisor: i128) -> i128 {
+fn ceiling(v: i128, divisor: i128) -> i128 {
     (v + divisor - 1) / divisor
 }

@@ -1,6 +1,7 @@
 //! The exact (tied) and the Minkowski (independent) sum.
 
 use std::collections::BTreeSet;
+use std::ops::Add;
 
 use crate::finish::{finish, Finished, FULL};
 use crate::set::{Set, Term, MAX_FACTORS};
@@ -14,7 +15,7 @@ pub fn tied_sum(first: &Set, second: &Set) -> Option<Finished> {
         centre: add(&first.centre, &second.centre),
         terms,
         generators: first.generators.iter().chain(&second.generators).cloned().collect(),
-        radii: add(&first.radii, &second.radii),
+        radius_parts: add(&first.radius_parts, &second.radius_parts),
         identifiers,
     };
     Some(finish(sum, FULL))
@@ -45,6 +46,6 @@ pub fn terms_over(set: &Set, identifiers: &[i128]) -> Vec<Term> {
         .collect()
 }
 
-pub fn add(x: &[i128], y: &[i128]) -> Vec<i128> {
-    x.iter().zip(y).map(|(x, y)| x + y).collect()
+pub fn add<T: Copy + Add<Output = T>>(x: &[T], y: &[T]) -> Vec<T> {
+    x.iter().zip(y).map(|(x, y)| *x + *y).collect()
 }

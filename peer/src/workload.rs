@@ -7,7 +7,7 @@ use crate::field::Field;
 use crate::finish::Limits;
 use crate::random::Random;
 use crate::run::MAX_FIELDS;
-use crate::set::{Set, Term, MAX_DIMENSION, MAX_FACTORS, MAX_GENERATORS, MAX_TERMS};
+use crate::set::{all_given, Set, Term, MAX_DIMENSION, MAX_FACTORS, MAX_GENERATORS, MAX_TERMS};
 use crate::step::{HalfWidths, Ranged, Step, ROUND, UNIT};
 
 pub struct Workload {
@@ -76,7 +76,7 @@ fn oscillator() -> Vec<Field> {
             Term { exponents: vec![1, 0], coefficients: vec![x, 0] },
         ],
         generators: Vec::new(),
-        radii: vec![0, 0],
+        radius_parts: all_given([0, 0]),
     };
     let step = Step {
         constant: vec![0, 41],
@@ -252,7 +252,7 @@ fn set(random: &mut Random, n: usize, rows: &BTreeSet<Vec<u32>>, limit: i128, ge
         centre: vec![0; n],
         terms: rows.iter().map(|row| term(random, row)).collect(),
         generators: (0..generators).map(|_| numbers(random, n, small)).collect(),
-        radii: vec![0; n],
+        radius_parts: all_given(vec![0; n]),
     }
 }
 

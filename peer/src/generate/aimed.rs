@@ -144,7 +144,7 @@ fn too_many_factors(random: &mut Random) -> (Field, Field) {
         body.identifiers.iter_mut().for_each(|id| *id += (first - shared) as i128);
     }
     if random.once_in(2) {
-        body.radii[0] = SPAN_LIMIT - body.span(0);
+        body.radius_parts[0].given = SPAN_LIMIT - body.span(0);
     }
     let field = match kind {
         0 => Field::Independent(body),
@@ -167,7 +167,7 @@ fn too_wide_result(random: &mut Random) -> Vec<u8> {
     }
     let mut start = plain_set(1, 1, 1, 0);
     let mut wide = plain_set(1, 0, 0, 0);
-    wide.radii[0] = SPAN_LIMIT;
+    wide.radius_parts[0].given = SPAN_LIMIT;
     let field = match random.below(7) {
         0 => {
             let mut step = zero_step(1, 1);

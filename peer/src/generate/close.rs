@@ -8,7 +8,7 @@ use super::valid::Builder;
 use crate::field::Field;
 use crate::finish::Limits;
 use crate::random::Random;
-use crate::set::{Set, Term, MAX_GENERATORS, MAX_TERMS, SPAN_LIMIT};
+use crate::set::{all_given, Set, Term, MAX_GENERATORS, MAX_TERMS, SPAN_LIMIT};
 use crate::step::{Ranged, Step, UNIT};
 
 /// Terms and generators of equal sizes or nearly so, as the weights have it, in reductions and full sums.
@@ -76,7 +76,7 @@ pub fn odd_folds(random: &mut Random) -> Vec<u8> {
     for i in 0..n {
         let room = SPAN_LIMIT - wide.span(i) - random.between(0, 3);
         match random.below(3) {
-            0 => wide.radii[i] += room,
+            0 => wide.radius_parts[i].given += room,
             _ => wide.centre[i] += if wide.centre[i] < 0 { -room } else { room },
         }
     }
@@ -196,7 +196,7 @@ fn body(
         centre: numbers(random, n, number),
         terms: rows.into_iter().map(|exponents| Term { exponents, coefficients: nonzero(random) }).collect(),
         generators: (0..random.below(generators + 1)).map(|_| nonzero(random)).collect(),
-        radii: (0..n).map(|_| random.between(0, 2)).collect(),
+        radius_parts: all_given((0..n).map(|_| random.between(0, 2))),
     }
 }
 

@@ -29,7 +29,7 @@ pub fn out_of_range(random: &mut Random, field: &mut Field) -> bool {
                 }
                 _ => {
                     let i = random.below(body.dimension());
-                    body.radii[i] = *random.pick(&[-1, -2, i128::from(i32::MIN)]);
+                    body.radius_parts[i].given = *random.pick(&[-1, -2, i128::from(i32::MIN)]);
                 }
             }
         }
@@ -115,9 +115,9 @@ pub fn widen(random: &mut Random, body: &mut Set) {
     let i = random.below(body.dimension());
     let room = SPAN_LIMIT - body.span(i);
     match random.below(4) {
-        0 => body.radii[i] += (room + 1).max(0),
+        0 => body.radius_parts[i].given += (room + 1).max(0),
         1 => body.centre[i] = i128::from(i32::MIN),
-        2 => body.radii[i] = i128::from(i32::MAX),
+        2 => body.radius_parts[i].given = i128::from(i32::MAX),
         _ if body.centre[i] < 0 => body.centre[i] -= room + 1,
         _ => body.centre[i] += room + 1,
     }

@@ -9,7 +9,8 @@ use crate::finish::Limits;
 use crate::random::Random;
 use crate::run::{MAX_DISTURBANCE, MAX_FIELDS};
 use crate::set::{
-    Set, MAX_DIMENSION, MAX_EXPONENT, MAX_FACTORS, MAX_FILE_IDENTIFIER, MAX_GENERATORS, MAX_TERMS, SPAN_LIMIT,
+    all_given, Set, Term, MAX_DIMENSION, MAX_EXPONENT, MAX_FACTORS, MAX_FILE_IDENTIFIER, MAX_GENERATORS, MAX_TERMS,
+    SPAN_LIMIT,
 };
 use crate::step::{CONSTANT_LIMIT, ENTRY_LIMIT, UNIT};
 
@@ -42,7 +43,7 @@ pub fn number(random: &mut Random, seed: u64) -> Vec<u8> {
             vec![start, given(random, body)]
         }
         3 => {
-            body.radii[1] = by;
+            body.radius_parts[1].given = by;
             vec![start, given(random, body)]
         }
         4 => {
@@ -93,8 +94,12 @@ pub fn number(random: &mut Random, seed: u64) -> Vec<u8> {
         }
         18 => {
             // With itself: a coefficient of 1 is halved and rounded to 0 four times, for which the radius takes 2.
-            let part = if random.once_in(2) { &mut body.radii } else { &mut body.centre };
-            part.fill(SPAN_LIMIT + by - 2 - 1);
+            let numbers = vec![SPAN_LIMIT + by - 2 - 1; 2];
+            if random.once_in(2) {
+                body.radius_parts = all_given(numbers);
+            } else {
+                body.centre = numbers;
+            }
             vec![Field::Start(body.clone()), Field::Hull(body)]
         }
         19 => {
@@ -214,6 +219,32 @@ pub fn full_hulls(random: &mut Random) -> Vec<u8> {
     [Field::Start(first), Field::Hull(second), check, Field::Hull(third)].iter().flat_map(Field::encode).collect()
 }
 
+/// Steps that keep two coordinates, one with a term of α³²β and the other with one of α³³, and make the other coordinates
+/// of their product, which folds: in each field one of them is nothing but what was folded, as wide as can be.
+pub fn most_folded(random: &mut Random) -> Vec<u8> {
+    let n = 3 + random.below(MAX_DIMENSION - 2);
+    let first = random.below(n);
+    let second = (first + 1 + random.below(n - 1)) % n;
+    let widest = (0..n).find(|i| ![first, second].contains(i));
+    let mut term = |exponents: [u32; 2], i: usize, size: i128| {
+        let mut coefficients = vec![0; n];
+        coefficients[i] = *random.pick(&[size, -size]);
+        Term { exponents: exponents.to_vec(), coefficients }
+    };
+    let mut start = plain_set(n, 2, 0, 0);
+    start.terms = vec![term([32, 1], first, 32_768), term([33, 0], second, 16_384)];
+    let mut step = zero_step(n, n);
+    for i in 0..n {
+        if [first, second].contains(&i) {
+            step.matrix[i][i] = UNIT;
+        } else {
+            let entry = if Some(i) == widest { ENTRY_LIMIT } else { random.between(0, ENTRY_LIMIT) };
+            step.forms[i][first][second] = *random.pick(&[entry, -entry]);
+        }
+    }
+    [Field::Start(start).encode(), Field::Step(step).encode().repeat(MAX_FIELDS)].concat()
+}
+
 fn given(random: &mut Random, body: Set) -> Field {
     match random.below(3) {
         0 => Field::Tied(body),
@@ -235,7 +266,7 @@ fn widen_to(random: &mut Random, set: &mut Set, span: i128) {
         let more = span - set.span(i);
         let part = match random.below(4) {
             0 => &mut set.centre[i],
-            1 => &mut set.radii[i],
+            1 => &mut set.radius_parts[i].given,
             2 => &mut set.terms[0].coefficients[i],
             _ => &mut set.generators[0][i],
         };

@@ -28,7 +28,7 @@ enum Make {
 }
 
 /// The kinds whose files a run accepts to the end.
-pub static VALID: [Kind; 19] = [
+pub static VALID: [Kind; 20] = [
     kind("mixed", "valid: fields of all kinds", |r| valid::run(r, &valid::MIXED)),
     kind("sharp", "valid: terms alone, no generators or radii", |r| valid::run(r, &valid::SHARP)),
     kind("terms", "valid: steps on many terms, folding by size", |r| valid::run(r, &valid::TERMS)),
@@ -46,6 +46,7 @@ pub static VALID: [Kind; 19] = [
     kind("ties", "valid: reductions among equal sizes, where weights and places decide", close::ties),
     kind("halves", "valid: steps among powers of two and odd numbers, where many are exact halves", close::halves),
     kind("folds", "valid: odd folds in sets as wide as can be, which they don't widen", close::odd_folds),
+    long("most-folded", "valid: 4,096 steps, each of which folds as much as there can be", limits::most_folded),
     long("long", "valid: 4,097 fields of all kinds, the most that a run may have", |r| valid::run(r, &valid::LONG)),
     long("plain-4097", "valid: as many fields that change little", |r| plain::little_changed(r, MAX_FIELDS)),
 ];

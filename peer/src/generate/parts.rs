@@ -4,7 +4,7 @@ use std::collections::BTreeSet;
 
 use crate::bounds::{lower_end, Halfspace, BOUND_LIMIT, MAX_HALFSPACES};
 use crate::random::Random;
-use crate::set::{Set, Term, MAX_FILE_IDENTIFIER, SPAN_LIMIT};
+use crate::set::{all_given, Set, Term, MAX_FILE_IDENTIFIER, SPAN_LIMIT};
 use crate::step::{HalfWidths, Ranged, Step, ENTRY_LIMIT, ROUND, UNIT};
 
 /// What a set body is to be like; the counts are at most.
@@ -27,6 +27,8 @@ pub fn body(random: &mut Random, shape: &Shape) -> Set {
     let exponents = exponent_rows(random, shape, factors, terms);
     let limit = (shape.span / (exponents.len() + shape.generators + 2) as i128).max(1);
     let numbers = |random: &mut Random| (0..n).map(|_| random.between(-limit, limit)).collect();
+    let no_radius = |random: &mut Random| !shape.with_radii || random.once_in(3);
+    let radius = |random: &mut Random| if no_radius(random) { 0 } else { random.between(0, limit) };
     Set {
         identifiers: identifiers(random, factors),
         centre: numbers(random),
@@ -35,9 +37,7 @@ pub fn body(random: &mut Random, shape: &Shape) -> Set {
             .map(|exponents| Term { exponents, coefficients: nonzero(random, n, limit) })
             .collect(),
         generators: (0..shape.generators).map(|_| nonzero(random, n, limit)).collect(),
-        radii: (0..n)
-            .map(|_| if !shape.with_radii || random.once_in(3) { 0 } else { random.between(0, limit) })
-            .collect(),
+        radius_parts: all_given((0..n).map(|_| radius(random))),
     }
 }
 
@@ -46,7 +46,7 @@ pub fn fill_span(random: &mut Random, set: &mut Set) {
     for i in 0..set.dimension() {
         let room = SPAN_LIMIT - set.span(i) - random.between(0, 2);
         if room > 0 && random.once_in(2) {
-            set.radii[i] += room;
+            set.radius_parts[i].given += room;
         } else if room > 0 {
             set.centre[i] += if set.centre[i] < 0 { -room } else { room };
         }

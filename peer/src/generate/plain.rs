@@ -4,7 +4,7 @@ use crate::bounds::Halfspace;
 use crate::field::Field;
 use crate::finish::Limits;
 use crate::random::Random;
-use crate::set::{Set, Term, MAX_GENERATORS, MAX_TERMS};
+use crate::set::{all_given, Set, Term, MAX_GENERATORS, MAX_TERMS};
 use crate::step::{Ranged, Step, UNIT};
 
 /// A set of the given counts, in limits or not, with all numbers 1 and zero centre and radii.
@@ -14,7 +14,7 @@ pub fn plain_set(n: usize, p: usize, h: usize, q: usize) -> Set {
         centre: vec![0; n],
         terms: (1..).take(h).map(|e| Term { exponents: vec![e; p], coefficients: vec![1; n] }).collect(),
         generators: vec![vec![1; n]; q],
-        radii: vec![0; n],
+        radius_parts: all_given(vec![0; n]),
     }
 }
 

@@ -3,6 +3,8 @@
 use std::io::Write;
 use std::process::{Command, Stdio};
 
+use crate::common::radius_lines;
+
 /// Exit status, standard output and standard error.
 type Answer = (i32, Vec<u8>, String);
 type Program = fn(&[&str], &[u8]) -> Answer;
@@ -28,10 +30,11 @@ fn answer(program: &str, words: &[&str], input: &[u8]) -> Answer {
 fn a_plan_through_all_commands() {
     let (status, run, message) = plan(&["encode"], b"start 1\ncentre 1.0\nradii 2");
     assert_eq!((status, message.as_str()), (0, ""));
-    assert_eq!(peer(&["motion"], &run), (0, b"0 1 4094 4098\nend 0\n".to_vec(), String::new()));
+    assert_eq!(peer(&["motion"], &run), (0, b"0 1 4094 4098\nfolded 0 0 0 0 0 0\nend 0\n".to_vec(), String::new()));
     let (_, text, _) = plan(&["show"], &run);
     assert_eq!(plan(&["encode"], &text).1, run);
-    let sets = "0 1 4094 4098\n  identifiers\n  centre 4096\n  radii 2\n  mark 65536\nend 0\n";
+    let rest = format!("{}  mark 65536\nfolded 0 0 0 0 0 0\nend 0\n", radius_lines(0, 0, 0, 2));
+    let sets = format!("0 1 4094 4098\n  identifiers\n  centre 4096\n{rest}");
     assert_eq!(String::from_utf8_lossy(&peer(&["sets"], &run).1), sets);
     let (status, report, _) = peer(&["follow", "3", "9"], &run);
     assert!(status == 0 && String::from_utf8_lossy(&report).contains("no escape among 3 motions"));

@@ -21,26 +21,37 @@ pub fn last_line(bytes: &[u8]) -> String {
     motion(bytes).lines().last().unwrap_or("").to_string()
 }
 
+/// The line before the last, which has the totals of folding where there is no refusal.
+pub fn totals_line(bytes: &[u8]) -> String {
+    motion(bytes).lines().nth_back(1).unwrap_or("").to_string()
+}
+
+/// The lines of `sets` for the radius of a set in one coordinate.
+pub fn radius_lines(carried: i128, rounded: i128, folded: i128, given: i128) -> String {
+    format!("  carried {carried}\n  rounded {rounded}\n  folded {folded}\n  given {given}\n")
+}
+
 /// The fields of a plan, all of which a run accepts.
 pub fn accepted(plan: &str) -> Vec<Accepted> {
     Run::new(&run_file(plan)).map(|item| item.expect("accepted")).collect()
 }
 
-/// Every number that a step of this set rounds, in 1/16,777,216: of the centre, of terms and generators, of pairs.
-pub fn unrounded(step: &Step, set: &Set) -> Vec<i128> {
+/// Every number that a step of this set rounds, by coordinate, in 1/16,777,216: of the centre, of terms and generators,
+/// of pairs.
+pub fn unrounded(step: &Step, set: &Set) -> Vec<Vec<i128>> {
     let k = &set.centre;
     let terms: Vec<&Vec<i128>> = set.terms.iter().map(|term| &term.coefficients).collect();
-    let mut numbers = Vec::new();
-    for ((c, row), form) in step.constant.iter().zip(&step.matrix).zip(&step.forms) {
+    let of_coordinate = |((c, row), form): ((&i128, &Vec<i128>), &Vec<Vec<i128>>)| {
         let q = |x: &[i128], y: &[i128]| form.iter().zip(x).map(|(row, x)| x * dot(row, y)).sum::<i128>();
-        numbers.push(ROUND * c + UNIT * dot(row, k) + q(k, k));
+        let mut numbers = vec![ROUND * c + UNIT * dot(row, k) + q(k, k)];
         numbers.extend(terms.iter().copied().chain(&set.generators).map(|g| UNIT * dot(row, g) + q(k, g) + q(g, k)));
         for (place, g) in terms.iter().enumerate() {
             numbers.push(q(g, g));
             numbers.extend(terms[place + 1..].iter().map(|h| q(g, h) + q(h, g)));
         }
-    }
-    numbers
+        numbers
+    };
+    step.constant.iter().zip(&step.matrix).zip(&step.forms).map(of_coordinate).collect()
 }
 
 /// The field with every centre, term, generator, c, Q and halfspace normal negated.
@@ -67,7 +78,8 @@ pub fn mirrored(field: &Field) -> Field {
     }
 }
 
-/// That each field, set and box of the one run is the mirror image of the other's, and each verdict the same.
+/// That each field, set and box of the one run is the mirror image of the other's, and each verdict, and what folding
+/// added, the same.
 pub fn assert_mirrored(run: &[Accepted], other: &[Accepted]) {
     assert_eq!(run.len(), other.len());
     for (one, other) in run.iter().zip(other) {
@@ -77,6 +89,7 @@ pub fn assert_mirrored(run: &[Accepted], other: &[Accepted]) {
         };
         assert_eq!((mirrored(&one.field), outcome), (other.field.clone(), other.outcome.clone()));
         assert_eq!((mirrored_set(&one.set), one.mark), (other.set.clone(), other.mark));
+        assert_eq!(one.folded, other.folded);
     }
 }
 

@@ -35,7 +35,7 @@ fn difference(script: &str, first_seed: u64) -> (String, &'static Kind, u64) {
 #[test]
 fn the_second_implementation_agrees_with_itself() {
     let (status, text) = compare("exec \"$0\" motion", &["--files", "44", "--seed", "500"]);
-    let whole = "compared: 44 files of 40 kinds, seeds up to 501, 5 of them also in pieces; ";
+    let whole = "compared: 44 files of 41 kinds, seeds up to 501, 5 of them also in pieces; ";
     assert!(status == 0 && text.starts_with(whole) && text.ends_with("no difference\n"), "{text}");
     assert!(text.contains("4 ways of not reading it") && text.lines().count() == 1, "{text}");
 }
@@ -47,6 +47,12 @@ fn a_changed_byte_is_noticed() {
     assert!(text.contains("from a file: line 1 should be \"0 1 ") && text.contains("there is \"0 2 "), "{text}");
     let (text, kind, _) = difference("\"$0\" motion | sed 's/refused 7/refused 6/'", 7010);
     assert!(kind.name == "refusal-7" && text.contains("refused 7 0"), "{text}");
+}
+
+#[test]
+fn a_wrong_total_is_noticed() {
+    let (text, ..) = difference("\"$0\" motion | sed 's/^folded \\(.*\\) 0$/folded \\1 1/'", 7015);
+    assert!(text.contains(" 0\\n\", and there is \"folded ") && text.contains(" 1\\n\""), "{text}");
 }
 
 #[test]

@@ -1,10 +1,10 @@
 //! Document 01's listing, its variants, its table as document 02's A.3 has it, and the cases marked 'run only'.
 
-use crate::common::{factors, last_line, run_file};
+use crate::common::{factors, last_line, radius_lines, run_file};
 use peer::bounds::bounding_box;
 use peer::finish::{finish, fold_term, Limits, FULL};
 use peer::run::Run;
-use peer::set::{Set, Term};
+use peer::set::{all_given, Set, Term};
 use peer::step::round;
 use peer::text::{motion, sets};
 
@@ -23,23 +23,23 @@ fn listing(b: i64, sum: u8) -> Vec<u8> {
 
 #[test]
 fn listing_prints_the_documents_lines() {
-    let lines = "0 1 -4096 4096\n1 2 -4096 8192\n2 7 safe\n3 5 0 4096\nend 3\n";
+    let lines = "0 1 -4096 4096\n1 2 -4096 8192\n2 7 safe\n3 5 0 4096\nfolded 0 0 0 0 0 0\nend 3\n";
     assert_eq!(motion(&listing(-16_777_217, 5)), lines);
 }
 
 #[test]
 fn lower_end_equal_to_b_is_unknown() {
-    let lines = "0 1 -4096 4096\n1 2 -4096 8192\n2 7 unknown\n3 5 0 4096\nend 3\n";
+    let lines = "0 1 -4096 4096\n1 2 -4096 8192\n2 7 unknown\n3 5 0 4096\nfolded 0 0 0 0 0 0\nend 3\n";
     assert_eq!(motion(&listing(-16_777_216, 5)), lines);
 }
 
 #[test]
 fn independent_sum_cancels_nothing() {
-    let lines = "0 1 -4096 4096\n1 2 -4096 8192\n2 7 safe\n3 4 -8192 12288\nend 3\n";
+    let lines = "0 1 -4096 4096\n1 2 -4096 8192\n2 7 safe\n3 4 -8192 12288\nfolded 0 0 0 0 0 0\nend 3\n";
     assert_eq!(motion(&listing(-16_777_217, 4)), lines);
-    let after = "3 4 -8192 12288\n  identifiers 1 65536\n  centre 0\n  term 0 1 : 4096\n  term 1 0 : -4096\n  \
-                 term 2 0 : 4096\n  radii 0\n  mark 65537\nend 3\n";
-    assert!(sets(&listing(-16_777_217, 4)).ends_with(after));
+    let set = "  identifiers 1 65536\n  centre 0\n  term 0 1 : 4096\n  term 1 0 : -4096\n  term 2 0 : 4096\n";
+    let rest = format!("{}  mark 65537\nfolded 0 0 0 0 0 0\nend 3\n", radius_lines(0, 0, 0, 0));
+    assert!(sets(&listing(-16_777_217, 4)).ends_with(&format!("3 4 -8192 12288\n{set}{rest}")));
 }
 
 #[test]
@@ -77,8 +77,9 @@ fn folds() {
 #[test]
 fn half_a_unit_times_one_grain_leaves_radius_one_alone() {
     let bytes = run_file("start 1\nidentifiers 1\nterm 1 : 1\nstep 1 from 1\nA 2048");
-    let after = "1 2 -1 1\n  identifiers\n  centre 0\n  radii 1\n  mark 65536\nend 1\n";
-    assert!(sets(&bytes).ends_with(after), "{}", sets(&bytes));
+    let rest = format!("{}  mark 65536\nfolded 0 0 0 0 0 0\nend 1\n", radius_lines(0, 1, 0, 0));
+    let after = format!("1 2 -1 1\n  identifiers\n  centre 0\n{rest}");
+    assert!(sets(&bytes).ends_with(&after), "{}", sets(&bytes));
 }
 
 #[test]
@@ -93,8 +94,9 @@ fn span_of_a_given_set() {
 #[test]
 fn exponents_that_add_to_64_fold_as_even() {
     let bytes = run_file("start 1\nidentifiers 1\nterm 32 : 4096\nstep 1 from 1\nQ 1 : 4096");
-    let after = "1 2 0 4096\n  identifiers\n  centre 2048\n  radii 2048\n  mark 65536\nend 1\n";
-    assert!(sets(&bytes).ends_with(after), "{}", sets(&bytes));
+    let rest = format!("{}  mark 65536\nfolded 2048 0 0 0 0 0\nend 1\n", radius_lines(0, 0, 2048, 0));
+    let after = format!("1 2 0 4096\n  identifiers\n  centre 2048\n{rest}");
+    assert!(sets(&bytes).ends_with(&after), "{}", sets(&bytes));
 }
 
 #[test]
@@ -119,7 +121,7 @@ fn factors_of_a_sum() {
 #[test]
 fn product_of_two_factors_reaches_both_ends() {
     let bytes = run_file("start 1\nidentifiers 1 2\nterm 1 1 : 5\n");
-    assert_eq!(motion(&bytes), "0 1 -5 5\nend 0\n");
+    assert_eq!(motion(&bytes), "0 1 -5 5\nfolded 0 0 0 0 0 0\nend 0\n");
 }
 
 #[test]
@@ -129,14 +131,14 @@ fn finishing_drops_the_smallest_of_equals_the_later() {
         centre: vec![0, 0],
         terms: vec![term(&[0, 0, 1], &[1, 0]), term(&[0, 1, 0], &[0, 4]), term(&[1, 0, 0], &[1, 1])],
         generators: vec![vec![0, 3], vec![-1, 0], vec![0, 4], vec![2, 0]],
-        radii: vec![0, 0],
+        radius_parts: all_given([0, 0]),
     };
     let finished = finish(set.clone(), Limits { terms: 2, generators: 2 });
     assert_eq!(finished.set.terms, [term(&[0, 1], &[1, 0]), term(&[1, 0], &[1, 1])]);
     assert_eq!(finished.set.identifiers, [1, 3], "the folded term's factor occurs nowhere else");
     assert_eq!(finished.set.generators, [vec![-1, 0], vec![2, 0]]);
     assert_eq!(finished.kept, [1, 3]);
-    assert_eq!(finished.set.radii, [0, 4 + 3 + 4]);
+    assert_eq!((finished.set.radii(), finished.folded), (vec![0, 4 + 3 + 4], vec![0, 4 + 3 + 4]));
     assert_eq!(finish(set.clone(), FULL).set, set, "a valid set is its own finished form");
 }
 
@@ -147,8 +149,8 @@ fn a_fold_leaves_the_widest_set_as_wide_as_it_was() {
         let plan = format!("start 1\nidentifiers 1\ncentre {centre}\nterm 2 : {g}\nreduce 0 0");
         motion(&run_file(&plan))
     };
-    assert_eq!(reduced("-1048573", "-3"), "0 1 -1048576 -1048573\n1 6 -1048576 -1048572\nend 1\n");
-    assert_eq!(reduced("1048573", "3"), "0 1 1048573 1048576\n1 6 1048572 1048576\nend 1\n");
+    assert_eq!(reduced("-1048573", "-3"), "0 1 -1048576 -1048573\n1 6 -1048576 -1048572\nfolded 2 0 0 0 0 0\nend 1\n");
+    assert_eq!(reduced("1048573", "3"), "0 1 1048573 1048576\n1 6 1048572 1048576\nfolded 2 0 0 0 0 0\nend 1\n");
 }
 
 #[test]
@@ -159,15 +161,16 @@ fn the_inexact_count_takes_in_what_rounds_to_zero_and_what_is_folded() {
     let accepted: Vec<_> = Run::new(&bytes).map(|item| item.expect("accepted")).collect();
     let set = &accepted[1].set;
     // S = 1·(2·1 + 1·2 + 1·1) = 5, which is less than a grain; half of 6 counted is 3.
-    assert_eq!((&set.terms, &set.generators, &set.radii), (&vec![], &vec![], &vec![1 + 3]));
+    assert_eq!((&set.terms, &set.generators, set.radii()), (&vec![], &vec![], vec![1 + 3]));
 }
 
 #[test]
 fn a_pair_of_terms_takes_the_form_both_ways() {
     let step = "step 1 from 2\nQ 1 : 0 3.0 / 1.0 0";
     let bytes = run_file(&format!("start 2\nidentifiers 1 2\nterm 0 1 : 0 1.0\nterm 1 0 : 1.0 0\n{step}"));
-    let after = "1 2 -16384 16384\n  identifiers 1 2\n  centre 0\n  term 1 1 : 16384\n  radii 0\n  mark 65536\nend 1\n";
-    assert!(sets(&bytes).ends_with(after), "{}", sets(&bytes));
+    let rest = format!("{}  mark 65536\nfolded 0 0 0 0 0 0\nend 1\n", radius_lines(0, 0, 0, 0));
+    let after = format!("1 2 -16384 16384\n  identifiers 1 2\n  centre 0\n  term 1 1 : 16384\n{rest}");
+    assert!(sets(&bytes).ends_with(&after), "{}", sets(&bytes));
 }
 
 #[test]

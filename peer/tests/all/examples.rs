@@ -2,7 +2,7 @@
 
 use std::path::{Path, PathBuf};
 
-use crate::common::{assert_mirrored, run_file, unrounded};
+use crate::common::{assert_mirrored, run_file, totals_line, unrounded};
 use peer::field::Field;
 use peer::follow::follow;
 use peer::run::{Accepted, Outcome, Run};
@@ -111,7 +111,7 @@ fn right_is_the_mirror_image_of_left() {
         let (set, after) = (&pair[0].set, &pair[1].set);
         match &pair[1].field {
             Field::Step(step) | Field::Ranged(Ranged { step, .. }) => {
-                let halves = unrounded(step, set).into_iter().filter(|v| v.rem_euclid(ROUND) == ROUND / 2);
+                let halves = unrounded(step, set).into_iter().flatten().filter(|v| v.rem_euclid(ROUND) == ROUND / 2);
                 let (odd, even): (Vec<i128>, Vec<i128>) = halves.partition(|v| v.div_euclid(ROUND) % 2 != 0);
                 (below_even, below_odd) = (below_even + even.len(), below_odd + odd.len());
             }
@@ -124,6 +124,23 @@ fn right_is_the_mirror_image_of_left() {
         }
     }
     assert!(below_even > 1 && below_odd > 1 && odd_folds > 1, "{below_even} {below_odd} {odd_folds}");
+}
+
+/// What the reductions of `left` cost, and what larger limits gain.
+#[test]
+fn left_is_narrower_where_less_is_folded() {
+    let travel = |accepted: &Accepted| match &accepted.outcome {
+        Outcome::Box(ends) => ends[0],
+        Outcome::Verdict { .. } => panic!("a check"),
+    };
+    let plan = text("left.plan");
+    let roomier = plan.replace("\nreduce 4 0", "\nreduce 8 0");
+    let run = |plan: &str| Run::new(&run_file(plan)).map(|item| item.expect("accepted")).collect::<Vec<Accepted>>();
+    let folded: Vec<i128> = run(&plan).iter().map(|field| field.folded[0]).filter(|added| *added > 0).collect();
+    assert_eq!(folded, [94, 1079, 258]);
+    assert_eq!((travel(&run(&plan)[12]), travel(&run(&roomier)[12])), ((-4766, 28_670), (-4766 + 260, 28_670 - 260)));
+    assert_eq!(totals_line(&run_file(&plan)), "folded 1431 4397 0 0 0 0");
+    assert_eq!(totals_line(&run_file(&roomier)), "folded 224 719 0 0 0 0");
 }
 
 /// The linear part x'' = -share·x - 1.397·x' solved over one sample, the unit of time, by the exponential's series;

@@ -6,7 +6,7 @@ use peer::finish::Finished;
 use peer::follow::{follow, Escape, Manner, Motion};
 use peer::generate::VALID;
 use peer::run::{Accepted, Outcome, Run, FIRST_MARK};
-use peer::set::{Set, Term};
+use peer::set::{RadiusParts, Set, Term};
 use peer::sums::tied_sum;
 
 #[test]
@@ -31,6 +31,10 @@ fn first_escape(bytes: &[u8], manner: Manner, answer: impl Fn(&mut Accepted)) ->
         }
     }
     None
+}
+
+fn set_radius(set: &mut Set, i: usize, radius: i128) {
+    set.radius_parts[i] = RadiusParts { given: radius, ..RadiusParts::default() };
 }
 
 fn plan() -> Vec<u8> {
@@ -60,7 +64,7 @@ fn a_narrowed_box_is_caught() {
 
 #[test]
 fn a_narrowed_set_is_caught() {
-    let narrowed = first_escape(&plan(), Manner::High, |accepted| accepted.set.radii[1] = 1);
+    let narrowed = first_escape(&plan(), Manner::High, |accepted| set_radius(&mut accepted.set, 1, 1));
     assert_eq!(narrowed, Some((0, Escape::Set)));
 }
 
@@ -144,14 +148,14 @@ fn a_hull_blended_the_other_way_is_caught() {
 #[test]
 fn a_hull_with_the_smaller_independent_part_is_caught() {
     let plan = "start 1\ngenerator 3\nhull 1\nradii 9";
-    assert_eq!(wrong_hull(plan, Manner::Low, |set| set.radii[0] = 3), Some((1, Escape::Set)));
+    assert_eq!(wrong_hull(plan, Manner::Low, |set| set_radius(set, 0, 3)), Some((1, Escape::Set)));
 }
 
 /// a/2 is taken for 0, twice: a motion at 1 is 1 away from all that is left.
 #[test]
 fn a_hull_whose_roundings_are_not_counted_is_caught() {
     let plan = "start 1\nidentifiers 1\nterm 1 : 1\nhull 1";
-    assert_eq!(wrong_hull(plan, Manner::High, |set| set.radii[0] = 0), Some((1, Escape::Set)));
+    assert_eq!(wrong_hull(plan, Manner::High, |set| set_radius(set, 0, 0)), Some((1, Escape::Set)));
 }
 
 /// With the number of the hull's factor given again, the sum's own factor would take the hull's value.
@@ -220,7 +224,7 @@ fn narrow_ranged(plan: &str, manner: Manner, radius: i128) -> Option<(usize, Esc
     assert_eq!(first_escape(&run_file(plan), manner, |_| ()), None);
     first_escape(&run_file(plan), manner, |accepted| {
         if let Field::Ranged(_) = accepted.field {
-            accepted.set.radii[0] = radius * 4096;
+            set_radius(&mut accepted.set, 0, radius * 4096);
         }
     })
 }
@@ -230,7 +234,7 @@ fn narrow_ranged(plan: &str, manner: Manner, radius: i128) -> Option<(usize, Esc
 fn a_gain_without_a_part_of_the_span_is_caught() {
     let start = "start 1\nidentifiers 1\ncentre 1.0\nterm 1 : 1.0\ngenerator 1.0\nradii 1.0\n";
     let plan = format!("{start}ranged 1 from 1\nA+- 1.0");
-    assert_eq!(accepted(&plan)[1].set.radii, [4 * 4096]);
+    assert_eq!(accepted(&plan)[1].set.radii(), [4 * 4096]);
     assert_eq!(narrow_ranged(&plan, Manner::High, 3), Some((1, Escape::Set)));
     let turned = plan.replace("centre 1.0", "centre -1.0");
     assert_eq!(narrow_ranged(&turned, Manner::Low, 3), Some((1, Escape::Set)));
@@ -240,7 +244,7 @@ fn a_gain_without_a_part_of_the_span_is_caught() {
 #[test]
 fn a_gain_without_one_of_the_products_is_caught() {
     let plan = "start 2\nradii 1.0 2.0\nranged 1 from 2\nQ+- 1 : 1.0 1.0 / 1.0 1.0";
-    assert_eq!(accepted(plan)[1].set.radii, [9 * 4096]);
+    assert_eq!(accepted(plan)[1].set.radii(), [9 * 4096]);
     for without in [1, 2, 4] {
         assert_eq!(narrow_ranged(plan, Manner::High, 9 - without), Some((1, Escape::Set)));
     }

@@ -1,14 +1,14 @@
 //! The generator's reach over a fixed set of seeds.
 
-use std::collections::BTreeSet;
+use std::collections::{BTreeMap, BTreeSet};
 
 use crate::common::unrounded;
 use peer::field::Field;
-use peer::finish::{size, Limits};
+use peer::finish::{size, Folds, Limits};
 use peer::generate::{kinds, Kind, REFUSED, VALID};
 use peer::random::Random;
 use peer::run::{apply, Accepted, Outcome, Refusal, Run, State, FIRST_MARK, MAX_FIELDS};
-use peer::set::{Set, MAX_EXPONENT, MAX_FACTORS, MAX_GENERATORS, MAX_TERMS, SPAN_LIMIT};
+use peer::set::{Set, MAX_DIMENSION, MAX_EXPONENT, MAX_FACTORS, MAX_GENERATORS, MAX_TERMS, SPAN_LIMIT};
 use peer::show::show;
 use peer::step::{dot, Ranged, ENTRY_LIMIT, ROUND, UNIT};
 
@@ -99,6 +99,56 @@ fn valid_kinds_reach_deep() {
     assert!(highest_mark > FIRST_MARK + 500, "{highest_mark}");
 }
 
+/// What folding added to each coordinate's radius in these fields.
+fn totals(fields: &[Accepted]) -> [i128; MAX_DIMENSION] {
+    let mut totals = [0; MAX_DIMENSION];
+    for field in fields {
+        totals.iter_mut().zip(&field.folded).for_each(|(total, added)| *total += added);
+    }
+    totals
+}
+
+/// By tag and reason, each that there can be: the number of terms grows in sums, steps and hulls, their exponents in
+/// steps, and the number of generators in sums.
+#[test]
+fn valid_kinds_fold_for_every_reason_before_steps_and_hulls() {
+    let mut carried = BTreeMap::new();
+    for kind in &VALID {
+        for fields in seeds(kind).map(|seed| run(&kind.file(seed)).0) {
+            let last = fields.iter().rposition(|field| [2, 8, 9].contains(&field.field.tag())).unwrap_or(0);
+            for field in fields[..last].iter().filter(|field| field.folded.iter().any(|added| *added > 0)) {
+                let Folds { by_exponent, by_size, generators } = field.folds;
+                for (reason, folds) in [("exponent", by_exponent), ("size", by_size), ("generators", generators)] {
+                    *carried.entry((field.field.tag(), reason)).or_insert(0) += usize::from(folds > 0);
+                }
+            }
+        }
+    }
+    carried.retain(|_, fields| *fields > 0);
+    let sums = [4, 5, 6].iter().flat_map(|tag| [(*tag, "size"), (*tag, "generators")]);
+    let steps = [2, 9].iter().flat_map(|tag| [(*tag, "size"), (*tag, "exponent")]);
+    assert_eq!(carried.keys().copied().collect::<BTreeSet<_>>(), sums.chain(steps).chain([(8, "size")]).collect());
+    assert!(carried.values().all(|fields| *fields > 20), "{carried:?}");
+}
+
+/// So that a program that prints totals though it refuses would be noticed.
+#[test]
+fn refusals_come_after_folds() {
+    let folds = |kind: &&Kind| (0..SEEDS).any(|seed| totals(&run(&kind.file(seed)).0) != [0; MAX_DIMENSION]);
+    assert!(REFUSED.iter().filter(folds).count() > 7);
+}
+
+/// The total that 4,096 fields can reach at most, each within the span, and which takes more than 32 bits.
+#[test]
+fn most_folded_has_the_greatest_total() {
+    let greatest = MAX_FIELDS as i128 * SPAN_LIMIT;
+    assert!(greatest > i128::from(u32::MAX));
+    for seed in 0..6 {
+        let fields = run(&kind("most-folded").file(seed)).0;
+        assert_eq!(totals(&fields).into_iter().max(), Some(greatest));
+    }
+}
+
 /// A set's terms and generators before a reduction that folds some, as (size by weight, plain size).
 fn reduced(name: &str) -> Vec<Vec<(i128, i128)>> {
     let mut lists = Vec::new();
@@ -136,7 +186,7 @@ fn halves_have_exact_halves_of_both_signs_with_an_even_or_an_odd_neighbour_below
         let mut found = [[false; 2]; 2];
         for fields in run(&kind("halves").file(seed)).0.windows(2) {
             if let Field::Step(step) | Field::Ranged(Ranged { step, .. }) = &fields[1].field {
-                for v in unrounded(step, &fields[0].set) {
+                for v in unrounded(step, &fields[0].set).into_iter().flatten() {
                     let (below, rest) = (v.div_euclid(ROUND), v.rem_euclid(ROUND));
                     found[usize::from(v > 0)][usize::from(below % 2 != 0)] |= rest == ROUND / 2;
                 }
@@ -229,7 +279,7 @@ fn ranged_steps(name: &str) -> Vec<(Set, Ranged, Accepted)> {
 /// By how much the half-widths widen each coordinate.
 fn widened(before: &Set, ranged: &Ranged, after: &Set) -> Vec<i128> {
     let exact = ranged.step.apply(before).set;
-    after.radii.iter().zip(&exact.radii).map(|(wide, narrow)| wide - narrow).collect()
+    after.radii().iter().zip(exact.radii()).map(|(wide, narrow)| wide - narrow).collect()
 }
 
 /// A rounding of the gain by itself would be noticed: it often makes one more than what is added.

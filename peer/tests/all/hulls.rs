@@ -1,14 +1,14 @@
 //! Hulls worked out by hand from document 02, A.1; what their refusals are about stands with the other refusals.
 
-use crate::common::{accepted, factors, last_line, run_file};
-use peer::set::Term;
+use crate::common::{accepted, factors, last_line, radius_lines, run_file};
+use peer::set::{RadiusParts, Set, Term};
 use peer::text::sets;
 
 /// What `sets` prints for the second of two fields.
 fn after(plan: &str) -> String {
     let text = sets(&run_file(plan));
     let begin = text.find("\n1 8 ").expect("a hull") + 1;
-    text[begin..].trim_end_matches("end 1\n").to_string()
+    text[begin..].trim_end_matches("folded 0 0 0 0 0 0\nend 1\n").to_string()
 }
 
 /// 4096·a and the point 4096: (4096a + 4096)/2 and, with the new factor, (4096a - 4096)/2.
@@ -16,7 +16,7 @@ fn after(plan: &str) -> String {
 fn a_line_and_a_point() {
     let set = after("start 1\nidentifiers 1\nterm 1 : 4096\nhull 1\ncentre 4096");
     let parts = "identifiers 1 65536\n  centre 2048\n  term 0 1 : -2048\n  term 1 0 : 2048\n  term 1 1 : 2048\n";
-    assert_eq!(set, format!("1 8 -4096 8192\n  {parts}  radii 0\n  mark 65537\n"));
+    assert_eq!(set, format!("1 8 -4096 8192\n  {parts}{}  mark 65537\n", radius_lines(0, 0, 0, 0)));
 }
 
 /// The same with the point first: the centre stays, and what the new factor stands with changes its sign.
@@ -24,7 +24,7 @@ fn a_line_and_a_point() {
 fn a_point_and_a_line() {
     let set = after("start 1\ncentre 4096\nhull 1\nidentifiers 1\nterm 1 : 4096");
     let parts = "identifiers 1 65536\n  centre 2048\n  term 0 1 : 2048\n  term 1 0 : 2048\n  term 1 1 : -2048\n";
-    assert_eq!(set, format!("1 8 -4096 8192\n  {parts}  radii 0\n  mark 65537\n"));
+    assert_eq!(set, format!("1 8 -4096 8192\n  {parts}{}  mark 65537\n", radius_lines(0, 0, 0, 0)));
 }
 
 /// 1 + 3a and 2 - 5a. The centre 3/2 goes to 2, the difference -1/2 to 0; a has 3/2 and -5/2, which go to 2 and -2 and
@@ -32,8 +32,8 @@ fn a_point_and_a_line() {
 #[test]
 fn each_half_rounds_alone_and_counts_even_where_nothing_is_left_of_it() {
     let set = after("start 1\nidentifiers 1\ncentre 1\nterm 1 : 3\nhull 1\nidentifiers 1\ncentre 2\nterm 1 : -5");
-    let parts = "identifiers 1 65536\n  centre 2\n  term 1 1 : 4\n  radii 3\n";
-    assert_eq!(set, format!("1 8 -5 9\n  {parts}  mark 65537\n"));
+    let parts = "identifiers 1 65536\n  centre 2\n  term 1 1 : 4\n";
+    assert_eq!(set, format!("1 8 -5 9\n  {parts}{}  mark 65537\n", radius_lines(0, 3, 0, 0)));
 }
 
 /// Odd in the first coordinate only: 3·a there rounds twice, the centres' 5 and -3 in the second not at all.
@@ -46,7 +46,7 @@ fn roundings_count_by_coordinate() {
     };
     assert_eq!(run[1].set.centre, [0, 1]);
     assert_eq!(run[1].set.terms, [term(&[0, 1], [0, 4]), term(&[1, 0], [2, 1]), term(&[1, 1], [2, 1])]);
-    assert_eq!(run[1].set.radii, [1, 0]);
+    assert_eq!(run[1].set.radii(), [1, 0]);
 }
 
 /// Parts of 3 + 2 + 1 and 1 + 1 + 0 in the one set, of 1 + 0 and 4 + 3 in the other. They are not halved.
@@ -54,7 +54,7 @@ fn roundings_count_by_coordinate() {
 fn the_larger_independent_part_of_each_coordinate_is_the_radius() {
     let first = "start 2\ngenerator 3 -1\ngenerator 2 1\nradii 1 0\n";
     let run = accepted(&format!("{first}hull 2\ngenerator -1 4\nradii 0 3"));
-    assert_eq!((run[1].set.radii.as_slice(), run[1].set.generators.len()), (&[6, 7][..], 0));
+    assert_eq!((run[1].set.radii(), run[1].set.generators.len()), (vec![6, 7], 0));
     assert_eq!((run[1].set.identifiers.len(), run[1].mark), (0, 65_537));
 }
 
@@ -71,12 +71,14 @@ fn equal_identifiers_stay_one_factor() {
     assert_eq!(terms(2), (vec![1, 2, 65_536], apart.to_vec()));
 }
 
-/// The set stays as it is; the new factor's number is used all the same, and a sum after it takes the next one.
+/// The set stays as it is, its radius now carried over; the new factor's number is used all the same, and a sum after
+/// it takes the next one.
 #[test]
 fn the_new_factor_vanishes_where_both_sets_are_equal() {
     let body = "1\nidentifiers 1\ncentre 7\nterm 1 : 6\nradii 2\n";
     let run = accepted(&format!("start {body}hull {body}independent {body}hull {body}"));
-    assert_eq!(run[1].set, run[0].set);
+    let carried = vec![RadiusParts { carried: 2, ..RadiusParts::default() }];
+    assert_eq!(run[1].set, Set { radius_parts: carried, ..run[0].set.clone() });
     assert_eq!(run.iter().map(|field| field.mark).collect::<Vec<_>>(), [65_536, 65_537, 65_538, 65_539]);
     assert_eq!(run[2].set.identifiers, [1, 65_537]);
     assert_eq!(run[3].set.identifiers, [1, 65_537, 65_538]);
@@ -89,7 +91,7 @@ fn the_later_of_equal_terms_fold() {
     let terms: String = (1..=40).map(|e| format!("term {e} : 10\n")).collect();
     let run = accepted(&format!("start 1\nidentifiers 1\n{terms}hull 1"));
     let set = &run[1].set;
-    assert_eq!((set.centre[0], set.radii[0]), (10 * 2, 10 * 3 + 30 * 5));
+    assert_eq!((set.centre[0], set.radii()[0]), (10 * 2, 10 * 3 + 30 * 5));
     let kept: Vec<Vec<u32>> = (1..=20).flat_map(|e| [vec![e, 0], vec![e, 1]]).collect();
     assert_eq!(set.terms.iter().map(|term| term.exponents.clone()).collect::<Vec<_>>(), kept);
 }

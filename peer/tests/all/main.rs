@@ -10,6 +10,8 @@ mod generator;
 mod hulls;
 mod mirrors;
 mod plans;
+mod radii;
+mod radius_rule;
 mod ranges;
 mod readings;
 mod refusals;

@@ -1,6 +1,6 @@
 //! Mirror images: both sides of 0 are rounded and folded alike (document 02, A.3).
 
-use crate::common::{assert_mirrored, mirrored};
+use crate::common::{assert_mirrored, mirrored, totals_line};
 use peer::finish::fold_term;
 use peer::generate::VALID;
 use peer::run::{Accepted, Run};
@@ -42,6 +42,7 @@ fn mirrored_runs_have_mirrored_answers() {
             let bytes: Vec<u8> = run.iter().flat_map(|field| mirrored(&field.field).encode()).collect();
             let image: Vec<Accepted> = Run::new(&bytes).map(|item| item.expect("accepted")).collect();
             assert_mirrored(&run, &image);
+            assert_eq!(totals_line(&kind.file(seed)), totals_line(&bytes));
         }
     }
 }

@@ -1,10 +1,10 @@
 //! Ranged steps worked out by hand from document 02, A.2; what their refusals are about stands with the other refusals.
 
-use crate::common::{accepted, run_file};
+use crate::common::{accepted, radius_lines, run_file};
 use peer::field::Field;
 use peer::generate::VALID;
 use peer::run::{Accepted, Run};
-use peer::set::Set;
+use peer::set::{RadiusParts, Set};
 use peer::step::Ranged;
 use peer::text::sets;
 
@@ -17,7 +17,7 @@ fn after(plan: &str) -> Set {
 fn radius(start: &str, half_widths: &str) -> i128 {
     let set = after(&format!("start {start}\nranged 1 from {}\n{half_widths}", &start[..1]));
     assert_eq!((set.centre[0], set.terms.len(), set.generators.len()), (0, 0, 0));
-    set.radii[0]
+    set.radii()[0]
 }
 
 /// The span is 10 + 20 + 5 + 3 = 38, of which a quarter is 9 1/2; the radius itself stays 3: 12 1/2 rounded up.
@@ -25,8 +25,9 @@ fn radius(start: &str, half_widths: &str) -> i128 {
 fn every_part_of_the_span_counts() {
     let start = "start 1\nidentifiers 1\ncentre -10\nterm 1 : 20\ngenerator -5\nradii 3\n";
     let text = sets(&run_file(&format!("{start}ranged 1 from 1\nA 1.0\nA+- 0.25")));
-    let parts = "identifiers 1\n  centre -10\n  term 1 : 20\n  generator -5\n  radii 13\n  mark 65536\n";
-    assert!(text.ends_with(&format!("\n1 9 -48 28\n  {parts}end 1\n")), "{text}");
+    let parts = "identifiers 1\n  centre -10\n  term 1 : 20\n  generator -5\n";
+    let rest = format!("{}  mark 65536\nfolded 0 0 0 0 0 0\nend 1\n", radius_lines(13, 0, 0, 0));
+    assert!(text.ends_with(&format!("\n1 9 -48 28\n  {parts}{rest}")), "{text}");
 }
 
 #[test]
@@ -40,7 +41,7 @@ fn each_part_of_the_span_alone() {
 #[test]
 fn a_row_of_half_widths_takes_each_coordinates_span() {
     let set = after("start 2\ncentre 4 -8\nranged 3 from 2\nA+- 0.5 0.25 / 0 1.0 / 0 0");
-    assert_eq!((set.centre, set.radii), (vec![0, 0, 0], vec![2 + 2, 8, 0]));
+    assert_eq!((set.radii(), set.centre), (vec![2 + 2, 8, 0], vec![0, 0, 0]));
 }
 
 /// Spans of 1 and 2 units: 1·2/2 and 2·1/4, 1·1 or 2·2 units.
@@ -51,15 +52,15 @@ fn a_form_of_half_widths_takes_the_product_of_two_spans() {
     assert_eq!(radius(start, "Q+- 1 : 1.0 0 / 0 0"), 4096);
     assert_eq!(radius(start, "Q+- 1 : 0 0 / 0 1.0"), 4 * 4096);
     let set = after(&format!("start {start}\nranged 2 from 2\nQ+- 2 : 1.0 0 / 0 0"));
-    assert_eq!(set.radii, [0, 4096]);
+    assert_eq!(set.radii(), [0, 4096]);
 }
 
 /// A radius of 1 becomes 1/4, to which a half-width adds another 1/4: a half, rounded up once.
 #[test]
 fn what_the_half_widths_add_is_not_rounded_by_itself() {
-    assert_eq!(after("start 1\nradii 1\nranged 1 from 1\nA -0.25\nA+- 0.25").radii, [1]);
-    assert_eq!(after("start 1\nradii 1\nranged 1 from 1\nA -0.75\nA+- 0.25").radii, [1]);
-    assert_eq!(after("start 1\nradii 1\nranged 1 from 1\nA -0.75\nA+- 1025").radii, [2]);
+    assert_eq!(after("start 1\nradii 1\nranged 1 from 1\nA -0.25\nA+- 0.25").radii(), [1]);
+    assert_eq!(after("start 1\nradii 1\nranged 1 from 1\nA -0.75\nA+- 0.25").radii(), [1]);
+    assert_eq!(after("start 1\nradii 1\nranged 1 from 1\nA -0.75\nA+- 1025").radii(), [2]);
     // 64·32/4096 is a half, and so is 64²·2048/16,777,216.
     assert_eq!(radius("1\ncentre 64", "A+- 32"), 1);
     assert_eq!(radius("1\ncentre 64", "Q+- 1 : 2048"), 1);
@@ -72,14 +73,14 @@ fn what_the_half_widths_add_is_not_rounded_by_itself() {
 #[test]
 fn inexact_roundings_are_counted_as_in_a_step() {
     let set = after("start 1\nidentifiers 1\nterm 1 : 1\nranged 1 from 1\nA 0.25\nA+- 0.25");
-    assert_eq!((set.terms.len(), set.radii[0]), (0, 1 + 1));
+    assert_eq!((set.terms.len(), set.radii()[0]), (0, 1 + 1));
 }
 
 /// The spans before the step count, not those of its image.
 #[test]
 fn the_constant_and_the_entries_do_not_count() {
     let start = "start 1\nidentifiers 1\nterm 1 : 8\n";
-    let gained = |step: &str| after(&format!("{start}ranged 1 from 1\n{step}A+- 0.5")).radii[0];
+    let gained = |step: &str| after(&format!("{start}ranged 1 from 1\n{step}A+- 0.5")).radii()[0];
     assert_eq!([gained(""), gained("c 100\n"), gained("A 4.0\n"), gained("A -4.0\n")], [4; 4]);
 }
 
@@ -111,20 +112,23 @@ fn half_widths_of_zero_give_the_steps_set() {
     assert!(steps > 200, "{steps}");
 }
 
-/// Half-widths change nothing but the radii, and of those only where they are.
+/// Half-widths change nothing but what radii carry over, and that only where they are.
 #[test]
-fn half_widths_widen_the_radii_alone() {
+fn half_widths_widen_what_is_carried_alone() {
     for seed in 0..12 {
         let bytes = VALID.iter().find(|kind| kind.name == "ranges").expect("a kind").file(seed);
         let fields: Vec<Accepted> = Run::new(&bytes).map(|item| item.expect("accepted")).collect();
         for pair in fields.windows(2) {
             if let Field::Ranged(Ranged { step, half_widths }) = &pair[1].field {
                 let (exact, set) = (step.apply(&pair[0].set).set, &pair[1].set);
-                assert_eq!(Set { radii: Vec::new(), ..exact.clone() }, Set { radii: Vec::new(), ..set.clone() });
+                let apart_from_radii = |set: &Set| Set { radius_parts: Vec::new(), ..set.clone() };
+                assert_eq!(apart_from_radii(&exact), apart_from_radii(set));
                 for i in 0..set.dimension() {
                     let mut widths = half_widths.matrix[i].iter().chain(half_widths.forms[i].iter().flatten());
-                    assert!(set.radii[i] >= exact.radii[i]);
-                    assert!(widths.any(|width| *width > 0) || set.radii[i] == exact.radii[i]);
+                    let (parts, exact) = (set.radius_parts[i], exact.radius_parts[i]);
+                    assert!(parts.carried >= exact.carried);
+                    assert!(widths.any(|width| *width > 0) || parts.carried == exact.carried);
+                    assert_eq!(RadiusParts { carried: exact.carried, ..parts }, exact);
                 }
             }
         }

@@ -16,7 +16,7 @@ fn range_before_rules_and_span() {
 fn disturbance_only_adds_radii() {
     let run = accepted("start 1\nidentifiers 1\nterm 2 : 3\ngenerator 2\nradii 1\ndisturbance 1\nradii 5");
     let mut widened = run[0].set.clone();
-    widened.radii[0] = 6;
+    widened.radius_parts[0].given = 6;
     assert_eq!(run[1].set, widened);
 }
 
@@ -26,11 +26,11 @@ fn the_bodys_generators_are_the_later_ones() {
     let of = |numbers: &str, count: usize| format!("generator {numbers}\n").repeat(count);
     let run = accepted(&format!("start 2\n{}tied 2\n{}", of("1 0", 12), of("0 4", 13)));
     assert_eq!(run[1].set.generators, [vec![vec![1, 0]; 12], vec![vec![0, 4]; 12]].concat());
-    assert_eq!(run[1].set.radii, [0, 4]);
+    assert_eq!(run[1].set.radii(), [0, 4]);
     let run = accepted(&format!("start 2\n{}tied 2\n{}", of("0 4", 12), of("1 0", 13)));
-    assert_eq!(run[1].set.radii, [1, 0]);
+    assert_eq!(run[1].set.radii(), [1, 0]);
     let run = accepted(&format!("start 2\n{}tied 2\n{}", of("0 3", 12), of("1 0", 13)));
-    assert_eq!(run[1].set.radii, [0, 3], "the smaller goes first, wherever it stands");
+    assert_eq!(run[1].set.radii(), [0, 3], "the smaller goes first, wherever it stands");
 }
 
 /// 12: above 63 it is the parity that counts, of the whole term.
@@ -40,7 +40,7 @@ fn parity_of_exponents_above_63() {
     let fold = |first: &str, second: &str| {
         let terms = format!("start 1\nidentifiers 1 2\nterm {first} : 128\nterm {second} : 128\n");
         let set = accepted(&format!("{terms}step 1 from 1\nQ 1 : 1.0")).remove(1).set;
-        (set.centre[0], set.radii[0], set.terms.len())
+        (set.centre[0], set.radii()[0], set.terms.len())
     };
     assert_eq!(fold("0 63", "63 0"), (2 + 2, 2 + 2, 1), "126 twice, and 63 63 stays");
     assert_eq!(fold("32 2", "33 2"), (2 + 2, 2 + 2 + 8, 0), "64 4 and 66 4 are even, 65 4 is not");
@@ -51,10 +51,10 @@ fn parity_of_exponents_above_63() {
 #[test]
 fn entries_count_by_themselves() {
     let run = accepted("start 2\ncentre 100 50\nradii 4096 4096\nstep 1 from 2\nQ 1 : 0 1.0 / -1.0 0");
-    assert_eq!((run[1].set.centre[0], run[1].set.radii[0]), (0, 4096 + 4096));
+    assert_eq!((run[1].set.centre[0], run[1].set.radii()[0]), (0, 4096 + 4096));
     let run = accepted("start 1\ncentre 1.0\nradii 10\nstep 1 from 1\nA 1.0\nQ 1 : 1.0");
     // The slope is 1 + 2·1, so 30, and 10·10/4096 of a grain: 31 rounded up once.
-    assert_eq!((run[1].set.centre[0], run[1].set.radii[0]), (8192, 31));
+    assert_eq!((run[1].set.centre[0], run[1].set.radii()[0]), (8192, 31));
 }
 
 /// 16: all factors of the body are counted and numbered, also one that finishing drops at once.
@@ -63,7 +63,7 @@ fn a_factor_that_finishing_drops_takes_a_number() {
     let terms: String = (1..=40).map(|e| format!("term {e} : 5\n")).collect();
     let run = accepted(&format!("start 1\nidentifiers 1\n{terms}independent 1\nidentifiers 9\nterm 1 : 1"));
     assert_eq!((run[1].set.identifiers.as_slice(), run[1].mark), (&[1][..], 65_537));
-    assert_eq!(run[1].set.radii, [1]);
+    assert_eq!(run[1].set.radii(), [1]);
 }
 
 /// 19: the field that is refused has the number it would have had.
