@@ -49,12 +49,15 @@ fn tag(input: &[u8], at: usize) -> u8 {
     0
 }
 
-// One run as a whole: how many fields were accepted, and the last answer.
+// One run as a whole: how many fields were accepted, the last answer, and what folding added.
 fn finish(input: &[u8], w: &mut [i64], e: &mut [u8]) {
     let r = run::run(input, w, e);
     let a = r.last;
     told::accepted(r.accepted);
     told::outcome(a);
+    let st = r.state;
+    let totals = st.folded;
+    told::folded(totals);
 }
 
 // One run: its end alone, or all of it.

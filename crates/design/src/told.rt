@@ -32,6 +32,24 @@ pub fn accepted(n: usize) {
     count(n);
 }
 
+// What folding added to each coordinate's radius.
+pub fn folded(totals: [u64; 6]) {
+    io::write_all(1, b"folded");
+    total(totals[0]);
+    total(totals[1]);
+    total(totals[2]);
+    total(totals[3]);
+    total(totals[4]);
+    total(totals[5]);
+    io::write_all(1, b"\n");
+}
+
+// A total after a blank.
+fn total(n: u64) {
+    io::write_all(1, b" ");
+    io::print_decimal(1, n);
+}
+
 // The ends of each coordinate, the verdict, or the refusal.
 pub fn outcome(a: Answer) {
     let o = a.outcome;

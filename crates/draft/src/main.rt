@@ -1,6 +1,7 @@
 // One example of each call, and document 01's run-only cases of single operations. Its `stdout` was worked out by other means:
 // docs/EXAMPLES.md.
 mod hulls;
+mod origins;
 mod ranges;
 mod sets;
 mod show;
@@ -64,4 +65,5 @@ fn main() {
     steps::examples();
     ranges::examples();
     hulls::examples();
+    origins::examples();
 }

@@ -1,5 +1,6 @@
 // The sets of the examples.
 use zonotope::PolyZonotope;
+use zonotope::Radii;
 
 // In one coordinate: factor 1 to a power.
 pub fn power(exponent: u8) -> PolyZonotope {
@@ -34,7 +35,8 @@ pub fn around(centre: i32, part: i32, radius: u32) -> PolyZonotope {
     s.generators = 1;
     s.centre[0] = centre;
     s.vectors[0] = part;
-    s.radii[0] = radius;
+    let radii = given(radius, 0);
+    s.radii = radii;
     s
 }
 
@@ -103,7 +105,8 @@ pub fn curved() -> PolyZonotope {
     s.exponents[12] = 2;
     s.coefficients[6] = 9;
     s.vectors[0] = 3;
-    s.radii[0] = 2;
+    let radii = given(2, 0);
+    s.radii = radii;
     s
 }
 
@@ -152,6 +155,36 @@ pub fn plane() -> PolyZonotope {
     s.exponents[25] = 1;
     s.coefficients[12] = 2048;
     s.vectors[0] = 1024;
-    s.radii[1] = 512;
+    let radii = given(0, 512);
+    s.radii = radii;
+    s
+}
+
+// The radii of two coordinates, all of it given.
+fn given(first: u32, second: u32) -> Radii {
+    let none = [0u32; 6];
+    let given = [first, second, 0, 0, 0, 0];
+    Radii {
+        carried: none,
+        rounded: none,
+        folded: none,
+        given,
+    }
+}
+
+// In one coordinate: 10 + 3 p, with a radius of 10 in four parts.
+pub fn parted() -> PolyZonotope {
+    let mut s = around(10, 3, 0);
+    let carried = [1u32, 0, 0, 0, 0, 0];
+    let rounded = [2u32, 0, 0, 0, 0, 0];
+    let folded = [3u32, 0, 0, 0, 0, 0];
+    let given = [4u32, 0, 0, 0, 0, 0];
+    let radii = Radii {
+        carried,
+        rounded,
+        folded,
+        given,
+    };
+    s.radii = radii;
     s
 }

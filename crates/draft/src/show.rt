@@ -5,6 +5,7 @@ use answers::Changed;
 use verdicts::Verdict;
 use zonotope::Examined;
 use zonotope::PolyZonotope;
+use zonotope::Radii;
 
 // A number after a blank.
 pub fn number(v: i64) {
@@ -147,9 +148,22 @@ fn parts(s: PolyZonotope) {
     numbers(&s.centre, 0, n);
     terms(s, h, p, n);
     generators(s, q, n);
-    io::write_all(1, b"\n  radii");
-    naturals(&s.radii, n);
+    radii(s.radii, n);
     io::write_all(1, b"\n");
+}
+
+// A line for each part of the radii.
+fn radii(r: Radii, n: usize)
+    requires { ⌜ n ≤ 6 ⌝ }
+{
+    io::write_all(1, b"\n  carried");
+    naturals(&r.carried, n);
+    io::write_all(1, b"\n  rounded");
+    naturals(&r.rounded, n);
+    io::write_all(1, b"\n  folded");
+    naturals(&r.folded, n);
+    io::write_all(1, b"\n  given");
+    naturals(&r.given, n);
 }
 
 // A line for each term.

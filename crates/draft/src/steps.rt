@@ -41,7 +41,7 @@ fn eight_times(s: PolyZonotope) -> PolyZonotope {
 }
 
 // From one coordinate to one, with fresh work slices.
-fn along_a_line(s: PolyZonotope, a: i32, q: i32) -> Changed {
+pub fn along_a_line(s: PolyZonotope, a: i32, q: i32) -> Changed {
     let constant = [0i32; 1];
     let linear = [a];
     let quadratic = [q];
