@@ -1,10 +1,10 @@
 // The causes that refuse a set, each a test over its lent arrays. A valid set passes through all parts of one, so they are joined by `|`.
 ghost use mathlib.Core.Path.{_≡_};
 ghost use Prim.Native.Nat.{_≤_};
-ghost use Rattle.zonotope.specs.Shape.{Lengths};
+ghost use Rattle.zonotope.specs.Shape.{PartLengths, Lengths};
+ghost use Rattle.zonotope.specs.Record.{spareParts};
 ghost use Rattle.zonotope.specs.Causes.{countsOut, rangeOut, spareIn, orderOut};
 use crate::Radii;
-use crate::parts;
 use arrays::spare;
 use arrays::used;
 
@@ -56,7 +56,23 @@ pub fn has_spare<'a>(
         | spare::outside_exponents(exponents, h, p)
         | spare::outside_numbers(coefficients, h, n)
         | spare::outside_numbers(vectors, q, n)
-        | parts::has_spare(radii, n)
+        | spare_in_parts(radii, n)
+}
+
+// Whether a place after the first n of a part isn't 0.
+fn spare_in_parts(r: Radii, n: usize) -> bool
+    requires { ⌜ n ≤ 6 ⌝ }
+    ensures { λ t. ⌜ t ≡ spareParts r n ⌝ }
+    ensures lengths { λ _. ⌜ PartLengths r ⌝ }
+{
+    let carried = r.carried;
+    let rounded = r.rounded;
+    let folded = r.folded;
+    let given = r.given;
+    spare::after_first(&carried, n)
+        | spare::after_first(&rounded, n)
+        | spare::after_first(&folded, n)
+        | spare::after_first(&given, n)
 }
 
 // 7, second: whether identifiers or terms don't rise, a term or a generator is zero, a term has no factor or a factor no term.

@@ -3,11 +3,9 @@ ghost use mathlib.Core.Path.{_≡_};
 ghost use Prim.Native.Nat.{ℕ, _+_, _≤_};
 ghost use lib.ListN.{getD};
 ghost use Rattle.arrays.specs.Rows.{mostRadius};
-ghost use Rattle.zonotope.specs.Record.{totalsOf, anew, spareParts};
-ghost use Rattle.zonotope.specs.Shape.{PartLengths};
+ghost use Rattle.zonotope.specs.Record.{totalsOf, anew};
 use crate::Radii;
 use crate::WideRadii;
-use arrays::spare;
 
 // The radius of each coordinate.
 pub fn totals(r: Radii) -> [u64; 6]
@@ -29,22 +27,6 @@ fn sum(c: u32, d: u32, f: u32, g: u32) -> u64
     ensures { λ t. ⌜ (t ≡ c + d + f + g) × (t ≤ mostRadius) ⌝ }
 {
     whole::widen_u32(c) + whole::widen_u32(d) + whole::widen_u32(f) + whole::widen_u32(g)
-}
-
-// Whether a place after the first n of a part isn't 0.
-pub fn has_spare(r: Radii, n: usize) -> bool
-    requires { ⌜ n ≤ 6 ⌝ }
-    ensures { λ t. ⌜ t ≡ spareParts r n ⌝ }
-    ensures lengths { λ _. ⌜ PartLengths r ⌝ }
-{
-    let carried = r.carried;
-    let rounded = r.rounded;
-    let folded = r.folded;
-    let given = r.given;
-    spare::after_first(&carried, n)
-        | spare::after_first(&rounded, n)
-        | spare::after_first(&folded, n)
-        | spare::after_first(&given, n)
 }
 
 // The radii of a result that makes its parts anew: nothing is folded yet, and nothing was given.

@@ -23,8 +23,8 @@ outside-numbers-requires-2 c κs = search needs
 outside-numbers-requires-3 : tie.Need-outside-numbers-requires-3
 outside-numbers-requires-3 c κs = search needs
 
-has-spare-requires : tie.Need-has-spare-requires
-has-spare-requires c κs = search needs
+spare-in-parts-requires : tie.Need-spare-in-parts-requires
+spare-in-parts-requires c κs = search needs
 
 returns : tie.Need-returns
 returns c =
@@ -41,10 +41,10 @@ returns c =
       exponents = omega arith;
       coefficients = omega arith;
       vectors = omega arith;
-      radii = c .has-spare .ensures .1;
+      radii = c .spare-in-parts .ensures .1;
     } in (
       ap₂ _||_ (ap₂ _||_ (ap₂ _||_ (ap₂ _||_ (ap₂ _||_ (k .after-first .ensures) (m .outside-numbers .ensures))
-          (e .outside-exponents .ensures)) (g .outside-numbers2 .ensures)) (v .outside-numbers3 .ensures)) (c .has-spare .ensures .0)
+          (e .outside-exponents .ensures)) (g .outside-numbers2 .ensures)) (v .outside-numbers3 .ensures)) (c .spare-in-parts .ensures .0)
           ∙ spare-places _ _ _ _ _ _ (a .n) (a .p) (a .h) (a .q) z,
       z,
     )
@@ -58,5 +58,5 @@ has-spare-spec =
     outside-exponents-requires
     outside-numbers-requires-2
     outside-numbers-requires-3
-    has-spare-requires
+    spare-in-parts-requires
     returns)

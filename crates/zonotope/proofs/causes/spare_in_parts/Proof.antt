@@ -1,12 +1,12 @@
--- `parts::has_spare` meets its contract, by its four tests.
+-- `causes::spare_in_parts` meets its contract, by its four tests.
 use native.Mathlib.Omega.{arith}
 use borrow.Author.Needs.{needs}
 use mathlib.Core.Path.{ap₂, _∙_}
 use mathlib.Core.Bool.{_||_}
 use Rattle.zonotope.specs.Shape.{PartLengths}
 use Rattle.zonotope.specs.View.{spare-parts}
-use Rattle.zonotope.proofs.parts.has_spare.Statement.{statement}
-use Rattle.zonotope.proofs.parts.has_spare.Tie as tie
+use Rattle.zonotope.proofs.causes.spare_in_parts.Statement.{statement}
+use Rattle.zonotope.proofs.causes.spare_in_parts.Tie as tie
 
 -- the arrays have their lengths
 lengths : (s : tie.Start) → PartLengths (s .args .r)
@@ -51,8 +51,8 @@ returns c =
       z,
     )
 
-pub has-spare-spec : {M : Type 1} → statement M
-has-spare-spec =
+pub spare-in-parts-spec : {M : Type 1} → statement M
+spare-in-parts-spec =
     tie.close
     (tie.spec
     slice-aggregate-after-first
