@@ -7,7 +7,7 @@ use lib.Dec.{ltb, eqb}
 use lib.ListN.{length, getD}
 use lib.IntN.{ℤ, pos, natAbs}
 use lib.Signed.{ltZ}
-use Rattle.whole.specs.Tab.{tab, any}
+use Rattle.whole.specs.Tab.{tab, any, all}
 use Rattle.model.specs.Limits.{maxDimension, maxFactors, maxTerms, maxGenerators, maxHalfspaces, maxEntry, maxConstant}
 use Rattle.model.specs.Limits.{maxDisturbance, maxBound, fileIdentifiers, standardWeights}
 use Rattle.model.specs.Set.{Zonotope, at}
@@ -45,6 +45,8 @@ pub record Meaning : Type 0 where
   pub wrongDimension : Bool
   -- 6: an entry, radius, exponent, identifier or bound is out of range
   pub outOfRange : Bool
+  -- 14: the radii of a disturbance are all zero
+  pub empty : Bool
   -- 7: the body's set breaks an ordering or zero rule
   pub disordered : Bool
   -- 8: it is too wide
@@ -73,6 +75,10 @@ negative z = ltZ z (pos 0)
 abbrev pub differs : ℕ → ℕ → Bool
 differs m n = not (eqb m n)
 
+-- radii are all zero
+abbrev pub allZero : List ℕ → Bool
+allZero radii = all (λ r. eqb r 0) radii
+
 -- an entry of a step is out of range
 abbrev pub badStepRange : Step.Step → Bool
 badStepRange p = any (beyond maxConstant) (p .constant) || any (beyond maxEntry) (p .linear) || any (beyond maxEntry) (p .quadratic)
@@ -98,6 +104,7 @@ ofSet b wrongDimension manyFactors result folds next = record {
   bytes = setLength b;
   wrongDimension = wrongDimension;
   outOfRange = badRange fileIdentifiers (givenSet b) || any negative (radiusWords b);
+  empty = false;
   disordered = badOrder (givenSet b);
   wide = tooWide (givenSet b);
   manyFactors = manyFactors;
@@ -115,6 +122,7 @@ ofStepBody b bytes outOfRange s next result folds = record {
   bytes = bytes;
   wrongDimension = differs (stepColumns b) (s .dimension);
   outOfRange = outOfRange;
+  empty = false;
   disordered = false;
   wide = false;
   manyFactors = false;
@@ -162,6 +170,7 @@ meaning disturbance b next s = let result = disturb (givenRadii b) s in record {
   bytes = 1 + 4 * dimension b;
   wrongDimension = differs (dimension b) (s .dimension);
   outOfRange = any (λ z. negative z || beyond maxDisturbance z) (disturbanceWords b);
+  empty = allZero (givenRadii b);
   disordered = false;
   wide = false;
   manyFactors = false;
@@ -176,6 +185,7 @@ meaning reduction b next s = let result = reduce standardWeights (termLimit b) (
   bytes = 2;
   wrongDimension = false;
   outOfRange = false;
+  empty = false;
   disordered = false;
   wide = false;
   manyFactors = false;
@@ -190,6 +200,7 @@ meaning check b next s = record {
   bytes = halfspaceAt b (halfspaceCount b);
   wrongDimension = differs (dimension b) (s .dimension);
   outOfRange = any (λ h. any (beyond maxEntry) (h .normal) || beyond maxBound (h .bound)) (givenHalfspaces b);
+  empty = false;
   disordered = false;
   wide = false;
   manyFactors = false;
@@ -205,6 +216,7 @@ meaning unknown b next s = record {
   bytes = 0;
   wrongDimension = false;
   outOfRange = false;
+  empty = false;
   disordered = false;
   wide = false;
   manyFactors = false;

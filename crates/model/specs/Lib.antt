@@ -9,6 +9,7 @@
 --     Bytes, Body  numbers in a run file, and what the body of a field says
 --     Field        the kinds of field: what each asks and gives
 --     Run          the state, the refusals in their order, one field, a list of fields, a whole input
+--     Rewrite      what the program `rewrite` leaves of a stored file
 --     Text         what the program prints: numbers, lines, the output of a whole input
 --     Rest         what is still to be printed at some place of an input
 --     Library      single operations on records: their refusals in order
@@ -19,6 +20,7 @@
 --     Origin       where the radii come from, and what is claimed of that
 --     Precision    how close the results are to the true points, and what is claimed of that (demand 2)
 --     Between      what is claimed of a hull
+--     OldRun       the run before request A.5, and what is claimed of rewritten files
 pub mod Limits
 pub mod Set
 pub mod Valid
@@ -31,6 +33,7 @@ pub mod Bytes
 pub mod Body
 pub mod Field
 pub mod Run
+pub mod Rewrite
 pub mod Text
 pub mod Rest
 pub mod Library
@@ -41,3 +44,4 @@ pub mod Motion
 pub mod Origin
 pub mod Precision
 pub mod Between
+pub mod OldRun

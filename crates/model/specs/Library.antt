@@ -16,7 +16,7 @@ use Rattle.model.specs.Step as Step
 use Rattle.model.specs.Operations.{tiedSum, independentSum, renumbered, disturb, reduce}
 use Rattle.model.specs.Ranged.{Widths, rangedStep}
 use Rattle.model.specs.Hull.{hull}
-use Rattle.model.specs.Field.{badDimension, beyond, differs, badStepRange, badWidthRange, tooMany, tooManyBlended}
+use Rattle.model.specs.Field.{badDimension, beyond, differs, allZero, badStepRange, badWidthRange, tooMany, tooManyBlended}
 use Rattle.model.specs.Run.{Cause, _if_, firstOf}
 
 -- a record as it is read: its set, and whether a place that the counts leave unused isn't 0
@@ -78,13 +78,14 @@ hullRefusal next g h =
     ∷ (10 if tooWide (hull standardWeights next (g .set) (h .set)))
     ∷ []))
 
--- radii for n coordinates, added to a set of this dimension: 4, 3, 5, 6
+-- radii for n coordinates, added to a set of this dimension: 4, 3, 5, 6, 14
 abbrev pub ofRadii : ℕ → List ℕ → ℕ → List Cause
 ofRadii n radii dimension =
     (4 if badDimension n)
     ∷ (3 if differs (length radii) n)
     ∷ (5 if differs n dimension)
     ∷ (6 if any (ltb maxDisturbance) radii)
+    ∷ (14 if allZero radii)
     ∷ []
 
 unfoldable pub disturbRefusal : ℕ → List ℕ → Given → Option ℕ

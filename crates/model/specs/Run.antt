@@ -94,6 +94,7 @@ ofBody m bytes =
     ∷ (3 if not (eqb bytes (m .bytes)))
     ∷ (5 if m .wrongDimension)
     ∷ (6 if m .outOfRange)
+    ∷ (14 if m .empty)
     ∷ (7 if m .disordered)
     ∷ (8 if m .wide)
     ∷ (9 if m .manyFactors)

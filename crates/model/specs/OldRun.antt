@@ -1,0 +1,95 @@
+-- The run as it was before request A.5, kept for what is claimed of rewritten files and for nothing else: a disturbance without a radius
+-- was accepted. The claims are proved in proofs/Kept.antt and proofs/Rewritten.antt.
+use mathlib.Core.Path.{_≡_}
+use mathlib.Core.List.{List, [], _∷_}
+use mathlib.Core.Option.{Option, none, some}
+use mathlib.Core.Bool.{false, not, cond}
+use Prim.Native.Nat.{ℕ, _+_}
+use lib.Dec.{ltb, eqb}
+use lib.ListN.{length}
+use Rattle.whole.specs.Tab.{any}
+use Rattle.model.specs.Limits.{lastField}
+use Rattle.model.specs.Set.{Zonotope}
+use Rattle.model.specs.Valid.{tooWide}
+use Rattle.model.specs.Field.{Outcome, refused, skipped}
+use Rattle.model.specs.Run.{State, begin, body, meant, Cause, _if_, firstOf, misplaced, cut, acceptedBy, refusedAt, after, outcome}
+use Rattle.model.specs.Run.{run, fields}
+use Rattle.model.specs.Rewrite.{emptyDisturbance, rewritten}
+
+-- ---- the old run
+-- all causes, in the order in which they were asked
+unfoldable pub oldCauses : State → List ℕ → List Cause
+oldCauses st f =
+    let m = meant st f in
+    let bytes = length (body f) in
+    (12 if ltb lastField (st .count))
+    ∷ (2 if misplaced (st .count) f)
+    ∷ (1 if cut f)
+    ∷ (3 if ltb bytes (m .countBytes))
+    ∷ (4 if m .wrongCounts)
+    ∷ (3 if not (eqb bytes (m .bytes)))
+    ∷ (5 if m .wrongDimension)
+    ∷ (6 if m .outOfRange)
+    ∷ (7 if m .disordered)
+    ∷ (8 if m .wide)
+    ∷ (9 if m .manyFactors)
+    ∷ (10 if tooWide (m .result))
+    ∷ []
+
+abbrev pub oldRefusal : State → List ℕ → Option ℕ
+oldRefusal st f = firstOf (oldCauses st f)
+
+-- what a field left, and what was answered for it
+unfoldable pub oldAfter : State → List ℕ → State
+oldAfter st f = cond (st .over) st (elim (oldRefusal st f) [ none ↦ acceptedBy st (meant st f) | some n ↦ refusedAt st ])
+
+unfoldable pub oldOutcome : ℕ → State → List ℕ → Outcome
+oldOutcome place st f = cond (st .over) skipped (elim (oldRefusal st f) [ none ↦ meant st f .outcome | some n ↦ refused n place ])
+
+-- a list of fields, each given the state that the last one left
+unfoldable pub oldRun : List (List ℕ) → State → State
+oldRun [] st = st
+oldRun (f ∷ fs) st = oldRun fs (oldAfter st f)
+
+-- ---- what comes of a field: its number, the set that it leaves, its box or verdict
+pub record Result : Type 0 where
+  pub number : ℕ
+  pub set : Option Zonotope
+  pub outcome : Outcome
+
+-- of each field of a list, the first of which has its first byte at `place`
+unfoldable pub results : ℕ → State → List (List ℕ) → List Result
+results place st [] = []
+results place st (f ∷ fs) =
+    record { number = st .count; set = after st f .set; outcome = outcome place st f } ∷ results (place + length f) (after st f) fs
+
+-- in the old run, of each but the empty disturbances
+unfoldable pub oldResults : ℕ → State → List (List ℕ) → List Result
+oldResults place st [] = []
+oldResults place st (f ∷ fs) =
+    let later = oldResults (place + length f) (oldAfter st f) fs in
+    cond (emptyDisturbance f) later (record { number = st .count; set = oldAfter st f .set; outcome = oldOutcome place st f } ∷ later)
+
+-- the same with the numbers n, n + 1 and so on
+unfoldable pub numbered : ℕ → List Result → List Result
+numbered n [] = []
+numbered n (r ∷ rs) = record { number = n; set = r .set; outcome = r .outcome } ∷ numbered (n + 1) rs
+
+-- ---- what is claimed
+-- The run of a rewritten file: no field is refused; each leaves and answers what it did, in order, numbered anew; folding added the same.
+pub record Kept (input : List ℕ) : Type 0 where
+  pub unrefused : run (fields (rewritten input)) begin .over ≡ false
+  pub same-results : results 0 begin (fields (rewritten input)) ≡ numbered 0 (oldResults 0 begin (fields input))
+  pub same-totals : run (fields (rewritten input)) begin .folded ≡ oldRun (fields input) begin .folded
+
+-- That is so wherever the old run met no refusal.
+abbrev pub KeepsResults : Type 0
+KeepsResults = (input : List ℕ) → oldRun (fields input) begin .over ≡ false → Kept input
+
+-- A rewritten file has no empty disturbance, whatever its bytes were.
+abbrev pub NoneLeft : Type 0
+NoneLeft = (input : List ℕ) → any emptyDisturbance (fields (rewritten input)) ≡ false
+
+-- Rewriting it again changes nothing.
+abbrev pub TwiceIsOnce : Type 0
+TwiceIsOnce = (input : List ℕ) → rewritten (rewritten input) ≡ rewritten input
