@@ -16,7 +16,7 @@ use Rattle.model.specs.Set.{Zonotope}
 use Rattle.model.specs.Valid.{badCounts, tooWide}
 use Rattle.model.specs.Body.{dimension, factors, termCount, generatorCount, radiusWords, givenSet, disturbanceWords, givenRadii}
 use Rattle.model.specs.Field.{start, Meaning, badDimension, differs, negative, ofSet}
-use Rattle.model.specs.Run.{State, body, tag, kindOf, meant, misplaced, cut, causes, refusal, accepted}
+use Rattle.model.specs.Run.{State, body, tag, kindOf, meant, misplaced, cut, ofBody, causes, refusal, accepted}
 use Rattle.model.proofs.Radii.{given-only-long}
 use Rattle.model.proofs.Tests.{or-false, no-cause, all-tab}
 use Rattle.model.proofs.Shape.{Shaped, Valid}
@@ -26,6 +26,7 @@ pub record Passed (m : Meaning) : Type 0 where
   pub counts : m .wrongCounts ≡ false
   pub dimension : m .wrongDimension ≡ false
   pub range : m .outOfRange ≡ false
+  pub filled : m .empty ≡ false
   pub order : m .disordered ≡ false
   pub width : m .wide ≡ false
   pub factors : m .manyFactors ≡ false
@@ -41,28 +42,40 @@ pub record AcceptedField (st : State) (f : List ℕ) : Type 0 where
   pub exact : length (body f) ≡ meant st f .bytes
   pub passed : Passed (meant st f)
 
+-- a body that no cause refuses has its counts and its length, and passed the tests of its kind
+pub body-passed : (m : Meaning) (bytes : ℕ) → All (λ c. c .holds ≡ false) (ofBody m bytes)
+    → (m .countBytes ≤ bytes) × (bytes ≡ m .bytes) × Passed m
+body-passed m bytes
+    (more short (more counts (more long (more sizes (more range (more filled (more order (more wide (more many (more result t)))))))))) = (
+      ltb-false bytes (m .countBytes) short,
+      eqb-true bytes (m .bytes) (not-false _ long),
+      record {
+        counts = counts;
+        dimension = sizes;
+        range = range;
+        filled = filled;
+        order = order;
+        width = wide;
+        factors = many;
+        result-width = result;
+      },
+    )
+
 -- where no cause of a refusal holds, every test is passed
 pub no-refusal : (st : State) (f : List ℕ) → st .over ≡ false → refusal st f ≡ none → AcceptedField st f
 unfolding causes
 no-refusal st f o e = go (no-cause (causes st f) e) where
   go : All (λ c. c .holds ≡ false) (causes st f) → AcceptedField st f
-  go (more late (more place (more end (more short (more counts (more bytes (more sizes (more range (more order (more wide (more many
-      (more result t)))))))))))) = record {
+  go (more late (more place (more end rest))) =
+      let p = body-passed (meant st f) (length (body f)) rest in
+      record {
         not-over = o;
         numbered = ltb-false _ _ late;
         placed = place;
         whole = end;
-        counts-there = ltb-false _ _ short;
-        exact = eqb-true _ _ (not-false _ bytes);
-        passed = record {
-          counts = counts;
-          dimension = sizes;
-          range = range;
-          order = order;
-          width = wide;
-          factors = many;
-          result-width = result;
-        };
+        counts-there = p .0;
+        exact = p .1;
+        passed = p .2;
       }
 
 -- An accepted field passed every test.

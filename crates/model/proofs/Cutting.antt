@@ -91,7 +91,7 @@ none-left = refl
 abbrev pub fieldsAfter : List ℕ → List (List ℕ)
 fieldsAfter rest = let next = drop (length (firstField rest)) rest in fieldsWithin (length next) next
 
-split : (n : ℕ) (t : ℕ) (l : List ℕ) → length (t ∷ l) ≤ n → fieldsWithin n (t ∷ l) ≡ firstField (t ∷ l) ∷ fieldsAfter (t ∷ l)
+pub split : (n : ℕ) (t : ℕ) (l : List ℕ) → length (t ∷ l) ≤ n → fieldsWithin n (t ∷ l) ≡ firstField (t ∷ l) ∷ fieldsAfter (t ∷ l)
 unfolding fieldsWithin
 split zero t l h = absurd (omega arith)
 split (suc n) t l h =

@@ -10,7 +10,7 @@ use Rattle.model.specs.Run.{State, begin, tag, refusal, accepted, after,
 use Rattle.model.specs.Text.{lineOf, refusalLine, endLine, foldedLine, outcomeLine, closing, linesFrom, printed}
 
 -- ---- what a field of a run that isn't over gives, by its refusal
-no-cause : {A : Type 0} (b : Bool) (o : Option ℕ) (x y : A) (z : ℕ → A) → b ≡ false → o ≡ none
+pub no-cause : {A : Type 0} (b : Bool) (o : Option ℕ) (x y : A) (z : ℕ → A) → b ≡ false → o ≡ none
     → cond b x (elim o [ none ↦ y | some n ↦ z n ]) ≡ y
 no-cause b o x y z e r = rw (e, r)
 

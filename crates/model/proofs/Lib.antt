@@ -1,8 +1,9 @@
 -- What is proved of the definitions.
 --     Marked, Listing                      document 01's marked table, its listing and some refusals
---     Written .. Longest                   computed from bytes: all kinds in two coordinates; every limit and refusal; 4,096 fields
+--     Written .. EmptyRun                  computed from bytes: all kinds in two coordinates; limits and refusals; 4,096 fields; rewriting
 --     Printed, Numerals, LastLine          the listing byte for byte; numbers as text; how an output ends
 --     Cutting                              an input cut after its first field
+--     Rewritten                            the fields of a rewritten file, and what is left of an input by its first field
 --     PairTable                            each place of the pair table belongs to one pair, in row order
 --     Order, Collect, Merge                the order of terms; collecting doesn't depend on the order in which terms come
 --     FoldOrder, Select, Level, FirstBySize   folding the smallest one at a time is keeping the first by size, then by place
@@ -23,6 +24,7 @@
 --     Ends, BoxPoint, SafePoint            the box holds every point; a region that the check calls safe holds none
 --     Moves, Enclosed                      each kind of field keeps every motion; demand 3, entire
 --     OldFault                             with a next identifier that doesn't rise, demand 3 is false
+--     OldField, Kept                       the run of a rewritten file gives what the run before request A.5 gave
 pub mod Marked
 pub mod Listing
 pub mod Written
@@ -31,10 +33,12 @@ pub mod Refusals
 pub mod Longest
 pub mod HullRun
 pub mod RangedRun
+pub mod EmptyRun
 pub mod Printed
 pub mod Numerals
 pub mod LastLine
 pub mod Cutting
+pub mod Rewritten
 pub mod PairTable
 pub mod Vectors
 pub mod Radii
@@ -101,3 +105,5 @@ pub mod SafePoint
 pub mod Moves
 pub mod Enclosed
 pub mod OldFault
+pub mod OldField
+pub mod Kept

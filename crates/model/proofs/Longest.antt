@@ -12,13 +12,14 @@ use lib.IntN.{pos}
 use Rattle.whole.specs.Sum.{sumBy}
 use Rattle.whole.specs.Tab.{tab, any, all}
 use Rattle.model.specs.Limits.{firstFresh, lastField}
-use Rattle.model.specs.Set.{Zonotope, termSizes, generatorSizes, span, longer, radiusOf, blank, givenOnly}
-use Rattle.model.specs.Valid.{order, rises, badRange, badOrder, tooWide}
-use Rattle.model.specs.Operations.{disturb}
+use Rattle.model.specs.Set.{Zonotope, termSizes, generatorSizes, span, radiusOf, blank, givenOnly}
+use Rattle.model.specs.Valid.{rises, badRange, badOrder, tooWide}
+use Rattle.model.specs.Operations.{reduce}
 use Rattle.model.specs.Bytes.{number, word}
-use Rattle.model.specs.Body.{givenSet, givenRadii}
+use Rattle.model.specs.Body.{givenSet}
 use Rattle.model.specs.Field.{meaning}
-use Rattle.model.specs.Finish.{folds}
+use Rattle.model.specs.Finish.{insert, collectInto, those, foldAll, foldTimes, keepAt, collectTerms, dropZeroTerms}
+use Rattle.model.specs.Finish.{dropZeroGenerators, foldHigh, foldTerms, foldGenerators, dropUnused, finish, folds}
 use Rattle.model.specs.Run.{State, begin, firstOf, kindOf, misplaced, cut, causes, refusal, after, run, withFolds}
 
 -- the point 0 in one coordinate, as a start set and as a set
@@ -28,9 +29,9 @@ started = 1 ∷ 12 ∷ 0 ∷ 1 ∷ 0 ∷ 0 ∷ 0 ∷ 0 ∷ 0 ∷ 0 ∷ 0 ∷ 0 �
 abbrev origin : Zonotope
 origin = record { dimension = 1; identifiers = []; centre = pos 0 ∷ []; terms = []; generators = []; radii = givenOnly 1 (0 ∷ []) }
 
--- a disturbance of 0
-abbrev undisturbed : List ℕ
-undisturbed = 3 ∷ 5 ∷ 0 ∷ 1 ∷ 0 ∷ 0 ∷ 0 ∷ 0 ∷ []
+-- a reduction to the limits of a set
+abbrev unreduced : List ℕ
+unreduced = 6 ∷ 2 ∷ 0 ∷ 40 ∷ 24 ∷ []
 
 -- the state after n fields that leave this set
 abbrev reached : ℕ → State
@@ -41,16 +42,17 @@ unfolding after withFolds folds causes firstOf misplaced cut kindOf meaning numb
     termSizes generatorSizes radiusOf rises sumBy tab any all
 starts = refl
 
-goes-on : (n : ℕ) → suc n ≤ lastField → after (reached (suc n)) undisturbed ≡ reached (suc n + 1)
-unfolding after withFolds folds causes firstOf misplaced cut kindOf meaning number word givenRadii disturb longer tooWide span termSizes
+goes-on : (n : ℕ) → suc n ≤ lastField → after (reached (suc n)) unreduced ≡ reached (suc n + 1)
+unfolding after withFolds folds causes firstOf misplaced cut kindOf meaning number reduce finish dropUnused foldGenerators foldTerms
+    foldHigh dropZeroGenerators dropZeroTerms collectTerms insert collectInto those foldAll foldTimes keepAt tooWide span termSizes
     generatorSizes radiusOf sumBy tab any all
 goes-on n h = rw (le-ltb lastField (suc n) h)
 
-many : (k n : ℕ) → n + k ≤ lastField → run (replicate k undisturbed) (reached (suc n)) ≡ reached (suc (n + k))
+many : (k n : ℕ) → n + k ≤ lastField → run (replicate k unreduced) (reached (suc n)) ≡ reached (suc (n + k))
 unfolding run
 many zero n h = rw (add-zero n)
 many (suc k) n h =
-    ap (run (replicate k undisturbed)) (goes-on n (omega arith) ∙ ap reached (next n)) ∙ many k (suc n) (omega arith) ∙ ap (λ m. reached
+    ap (run (replicate k unreduced)) (goes-on n (omega arith) ∙ ap reached (next n)) ∙ many k (suc n) (omega arith) ∙ ap (λ m. reached
     (suc m)) (step n k)
   where
     next : (n : ℕ) → suc n + 1 ≡ suc (suc n)
@@ -60,6 +62,6 @@ many (suc k) n h =
     step n k = omega arith
 
 pub longest-run :
-    (run (started ∷ replicate 4096 undisturbed) begin ≡ reached 4097) × ((f : List ℕ) → refusal (reached 4097) f ≡ some 12)
+    (run (started ∷ replicate 4096 unreduced) begin ≡ reached 4097) × ((f : List ℕ) → refusal (reached 4097) f ≡ some 12)
 unfolding run causes firstOf
-longest-run = (ap (run (replicate 4096 undisturbed)) starts ∙ many 4096 0 (omega arith), λ f. refl)
+longest-run = (ap (run (replicate 4096 unreduced)) starts ∙ many 4096 0 (omega arith), λ f. refl)

@@ -1,16 +1,17 @@
 -- Tests by Bool as facts, and back: `||`, `&&`, `any`, `all`, `rises`, and the first cause of a list.
 use mathlib.Core.Path.{_≡_, refl, sym, _∙_, ap}
 use mathlib.Core.List.{List, [], _∷_, _++_}
-use mathlib.Core.Bool.{Bool, true, false, cond, _&&_, _||_, true≢false}
+use mathlib.Core.Bool.{Bool, true, false, not, cond, _&&_, _||_, true≢false}
 use mathlib.Core.Option.{none, some, Option·none-ne-some, Option·getD}
 use Prim.Native.Nat.{ℕ, zero, suc, _<_}
 use native.Mathlib.Omega.{arith}
-use borrow.Author.Tests.{eq-eqb, eqb-false}
-use lib.Dec.{eqb}
+use borrow.Author.Tests.{eq-eqb, ne-eqb, eqb-false, lt-ltb}
+use lib.Dec.{ltb, eqb}
 use Rattle.whole.specs.Tab.{tab, any, all}
 use Rattle.rational.specs.Sum as Sum
 use Rattle.rational.specs.Sum.{All, more}
 use Rattle.model.specs.Valid.{rises}
+use Rattle.model.specs.Field.{allZero}
 use Rattle.model.specs.Run.{Cause, firstOf}
 use Rattle.model.proofs.Lists.{Rising, nothing, first}
 
@@ -55,6 +56,15 @@ module _ {A : Type 0} (p : A → Bool) where
   unfolding all
   true-all Sum.none = refl
   true-all (more h t) = true-and h (true-all t)
+
+-- radii are all zero where none is above 0
+pub zero-radii : (r : List ℕ) → allZero r ≡ not (any (ltb 0) r)
+unfolding any all
+zero-radii [] = refl
+zero-radii (zero ∷ r) = zero-radii r
+zero-radii (suc n ∷ r) =
+    ap (_&& allZero r) (ne-eqb (suc n) 0 (λ e. omega arith))
+    ∙ sym (ap (λ b. not (b || any (ltb 0) r)) (lt-ltb 0 (suc n) (omega arith)))
 
 -- what holds at each place below n holds of the table, and back
 module _ {A : Type 0} {P : A → Type 0} where
