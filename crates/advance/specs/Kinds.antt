@@ -9,7 +9,7 @@ use borrow.Author.Tests.{ltb-true, ltb-false, not-false}
 use lib.Dec.{ltb}
 use lib.ListN.{length}
 use Rattle.whole.specs.Tests.{or-left, or-right}
-use Rattle.rational.specs.Sum.{All, more, All-imp}
+use Rattle.rational.specs.Sum.{All-imp}
 use Rattle.model.specs.Limits.{firstFresh, lastFresh}
 use Rattle.model.specs.Set.{Zonotope}
 use Rattle.model.specs.Operations.{box}
@@ -20,7 +20,7 @@ use Rattle.model.specs.Run.{causes, ofBody, misplaced, cut}
 use Rattle.model.proofs.Tests.{any-false, no-cause}
 use Rattle.model.proofs.Shape as Shape
 use Rattle.model.proofs.Held.{Held, held}
-use Rattle.model.proofs.Accepted.{Passed, first-starts}
+use Rattle.model.proofs.Accepted.{Passed, body-passed, first-starts}
 use Rattle.model.proofs.ByKind.{starts, leaves}
 use Rattle.zonotope.specs.declared.PolyZonotope.{PolyZonotope}
 use Rattle.zonotope.specs.declared.Examined.{Examined}
@@ -145,19 +145,9 @@ unfolding meaning
 start-alone b n s u = (refl, refl)
 
 -- what a body that nothing refuses passed
-body-passed : (k : Kind) (b : List ℕ) (next : ℕ) (s : Zonotope) → bodyRefusal k b next s ≡ none → Passed (meaning k b next s)
-body-passed k b next s e = go (no-cause (ofBody (meaning k b next s) (length b)) e)
-  where
-    go : All (λ c. c .holds ≡ false) (ofBody (meaning k b next s) (length b)) → Passed (meaning k b next s)
-    go (more short (more counts (more bytes (more sizes (more range (more order (more wide (more many (more result t))))))))) = record {
-      counts = counts;
-      dimension = sizes;
-      range = range;
-      order = order;
-      width = wide;
-      factors = many;
-      result-width = result;
-    }
+passed-by : (k : Kind) (b : List ℕ) (next : ℕ) (s : Zonotope) → bodyRefusal k b next s ≡ none → Passed (meaning k b next s)
+passed-by k b next s e =
+    body-passed (meaning k b next s) (length b) (no-cause (ofBody (meaning k b next s) (length b)) e) .2
 
 -- ---- a state that a run can have
 module _ (st : State) (run : Running st) where
@@ -190,7 +180,7 @@ module _ (st : State) (run : Running st) where
     unfolding pack
     result-means e =
         let h = leaves k b (st .next) (current (viewed st)) from-first (λ q. now-held (there q))
-        (body-passed k b (st .next) (current (viewed st)) e) .holds in
+        (passed-by k b (st .next) (current (viewed st)) e) .holds in
         let counts = Shape.counts-false (h .counts) in
         let leavable : Leavable st (makesAnew k) (pack (m .result)) =
         record { limits = countable (m .result) counts; rising = result-rises st run k b there; few = run .totals } in

@@ -1,19 +1,21 @@
 -- The bodies of the other kinds: their counts, and bodies as long as their counts say.
-use mathlib.Core.Path.{_≡_, refl}
-use mathlib.Core.List.{List, map}
-use mathlib.Core.Bool.{Bool, false, _||_}
-use Prim.Native.Nat.{ℕ, _+_, _*_, _/_, _%_, _<_, _≤_}
+use mathlib.Core.Path.{_≡_, refl, sym, ap, ap₂, _∙_}
+use mathlib.Core.List.{List, [], _∷_, map}
+use mathlib.Core.Bool.{Bool, false, not, _||_}
+use Prim.Native.Nat.{ℕ, suc, _+_, _*_, _/_, _%_, _<_, _≤_}
 use native.Mathlib.Nat.{mul-le-mul}
 use native.Mathlib.Omega.{arith}
+use borrow.Author.Tests.{le-ltb, lt-ltb}
 use lib.Dec.{ltb, eqb}
 use lib.ListN.{length}
-use lib.IntN.{ℤ, natAbs}
+use lib.IntN.{ℤ, pos, negsuc, natAbs}
 use Rattle.whole.specs.Tab.{tab, any}
 use Rattle.model.specs.Limits.{maxTerms, maxGenerators, maxHalfspaces}
 use Rattle.model.specs.Bytes.{word, words, long}
 use Rattle.model.specs.Body.{dimension, stepRows, stepColumns, stepLength, givenStep, rangedLength, givenWidths}
 use Rattle.model.specs.Body.{termLimit, generatorLimit, halfspaceCount, halfspaceAt}
-use Rattle.model.specs.Field.{badDimension, negative, negativeWidth}
+use Rattle.model.specs.Field.{badDimension, allZero, negative, beyond, negativeWidth}
+use Rattle.model.proofs.Tests.{zero-radii}
 
 module _ (b : List ℕ) where
   -- ---- a step
@@ -68,6 +70,17 @@ module _ (b : List ℕ) where
   givenBounds = tab (halfspaceCount b) (λ k. long b (halfspaceAt b k + 4 * dimension b))
 
 -- ---- laws
+-- the sizes of words are all zero where none is negative or above 0
+sizes-above : (zs : List ℤ) → any (ltb 0) (map natAbs zs) ≡ any (λ z. negative z || beyond 0 z) zs
+unfolding any
+sizes-above [] = refl
+sizes-above (pos n ∷ zs) =
+    ap₂ _||_ (sym (ap (_|| ltb 0 n) (le-ltb n 0 (omega arith)))) (sizes-above zs)
+sizes-above (negsuc n ∷ zs) = ap (_|| any (ltb 0) (map natAbs zs)) (lt-ltb 0 (suc n) (omega arith))
+
+pub zero-words : (zs : List ℤ) → not (any (λ z. negative z || beyond 0 z) zs) ≡ allZero (map natAbs zs)
+zero-words zs = sym (zero-radii (map natAbs zs) ∙ ap not (sizes-above zs))
+
 -- numbers of entries of a step whose counts are bytes
 pub entries-small : (m n : ℕ) → m < 256 → n < 256 → (m * n ≤ 65025) × (m * n * n ≤ 16581375)
 entries-small m n h l =

@@ -10,7 +10,7 @@ ghost use Rattle.model.specs.Limits.{fileIdentifiers, maxDisturbance};
 ghost use Rattle.model.specs.Body.{setLength, radiusWords, givenSet, stepLength, givenStep};
 ghost use Rattle.model.specs.Body.{rangedLength, givenWidths};
 ghost use Rattle.model.specs.Body.{dimension, disturbanceWords, givenRadii};
-ghost use Rattle.model.specs.Field.{badDimension, negative, negativeWidth, beyond};
+ghost use Rattle.model.specs.Field.{badDimension, allZero, negative, negativeWidth, beyond};
 ghost use Rattle.zonotope.specs.Record.{pack};
 ghost use Rattle.bodies.specs.Set.{countsOf, setCountsOut, SetBody, InLimits, radiiFrom};
 ghost use Rattle.bodies.specs.Fields.{stepCountsOut, StepBody, WidthsBody, radiiLength, limitsOut};
@@ -210,6 +210,15 @@ pub fn radii_out(b: &[u8]) -> bool
 {
     let n = words::byte_at(b, 0);
     words::any_outside(b, 1, n, MAX_DISTURBANCE)
+}
+
+// 14: whether the radii of a disturbance are all zero.
+pub fn radii_empty(b: &[u8]) -> bool
+    requires { ⌜ length (now b) ≡ radiiLength (now b) ⌝ }
+    ensures { λ r. ⌜ r ≡ allZero (givenRadii (now (b .entry))) ⌝ }
+{
+    let n = words::byte_at(b, 0);
+    !words::any_outside(b, 1, n, 0)
 }
 
 // ---- a reduction

@@ -17,6 +17,18 @@ fn examples_of_one_set() {
     io::write_all(1, b"disturb");
     let radii = [1u32, 4u32];
     show::changed(sums::disturb(sets::curved(), 2, &radii));
+    io::write_all(1, b"disturb by 0 and 4");
+    let second = [0u32, 4u32];
+    show::changed(sums::disturb(sets::curved(), 2, &second));
+    io::write_all(1, b"disturb by 0 and 0");
+    let zeros = [0u32, 0u32];
+    show::changed(sums::disturb(sets::curved(), 2, &zeros));
+    io::write_all(1, b"disturb by 0 and 1048577");
+    let wide = [0u32, 1048577u32];
+    show::changed(sums::disturb(sets::curved(), 2, &wide));
+    io::write_all(1, b"disturb by 0 alone");
+    let one = [0u32];
+    show::changed(sums::disturb(sets::curved(), 1, &one));
     io::write_all(1, b"reduce to 1 term");
     show::changed(sums::reduce(sets::curved(), 1, 0));
     io::write_all(1, b"reduce to 0 terms");

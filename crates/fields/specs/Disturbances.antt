@@ -15,8 +15,8 @@ use Rattle.model.specs.Limits.{maxDisturbance}
 use Rattle.model.specs.Valid.{tooWide}
 use Rattle.model.specs.Operations.{disturb}
 use Rattle.model.specs.Body.{dimension, disturbanceWords, givenRadii}
-use Rattle.model.specs.Field.{disturbance, meaning, badDimension, negative, beyond, differs}
-use Rattle.model.specs.Run.{Cause, firstOf}
+use Rattle.model.specs.Field.{disturbance, meaning, badDimension, allZero, negative, beyond, differs}
+use Rattle.model.specs.Run.{Cause, _if_, firstOf}
 use Rattle.zonotope.specs.declared.PolyZonotope.{PolyZonotope}
 use Rattle.zonotope.specs.declared.Examined.{Examined}
 use Rattle.zonotope.specs.declared.Examined.the-variants as Accept
@@ -32,7 +32,7 @@ use Rattle.answers.specs.Finishing.{part, part-length}
 use Rattle.summing.specs.Disturb.{Disturbable}
 use Rattle.bodies.specs.Fields.{radiiLength}
 use Rattle.fields.specs.Refusal.{bodyRefusal}
-use Rattle.fields.specs.Layout.{layout, LaidOut, laid-out, ofNumbers, in-parts}
+use Rattle.fields.specs.Layout.{layout, LaidOut, laid-out, three-parts}
 
 module _ (b : List ℕ) where
   -- the body is as long as its count says: 3, 4, 3
@@ -46,23 +46,28 @@ module _ (b : List ℕ) where
   abbrev pub radiiOut : Bool
   radiiOut = any (λ z. negative z || beyond maxDisturbance z) (disturbanceWords b)
 
--- a disturbance in n coordinates: the layout, then 5 and 6
+  -- 5, 6 and 14 in n coordinates
+  abbrev pub ofGiven : ℕ → List Cause
+  ofGiven n = (5 if differs (dimension b) n) ∷ (6 if radiiOut) ∷ (14 if allZero (givenRadii b)) ∷ []
+
+-- a disturbance in n coordinates: the layout, then its dimension and radii
 abbrev pub ofDisturbance : ℕ → List ℕ → List Cause
-ofDisturbance n b = radiiLayout b ++ ofNumbers (differs (dimension b) n) (radiiOut b)
+ofDisturbance n b = radiiLayout b ++ ofGiven b n
 
 pub disturbance-order : (b : List ℕ) (s : PolyZonotope)
     → bodyRefusal disturbance b 0 (view s) ≡ orElse (firstOf (ofDisturbance (s .dimension) b)) (ofResult (disturb (givenRadii b) (view s)))
-unfolding meaning view
+unfolding meaning view firstOf
 disturbance-order b s =
-    let numbers = ofNumbers (differs (dimension b) (s .dimension)) (radiiOut b) in
-    in-parts (radiiLayout b) (differs (dimension b) (s .dimension)) (radiiOut b) (tooWide (disturb (givenRadii b) (view s)))
+    let numbers = ofGiven b (s .dimension) in
+    three-parts (radiiLayout b) numbers
+    ((7 if false) ∷ (8 if false) ∷ (9 if false) ∷ (10 if tooWide (disturb (givenRadii b) (view s))) ∷ [])
     ∙ orElse-assoc (firstOf (radiiLayout b)) (firstOf numbers) _
     ∙ ap (λ o. orElse o (ofResult (disturb (givenRadii b) (view s)))) (sym (first-append (radiiLayout b) numbers))
 
 -- ---- the answer of each test
 module _ (n : ℕ) (b : List ℕ) where
   abbrev numbers : List Cause
-  numbers = ofNumbers (differs (dimension b) n) (radiiOut b)
+  numbers = ofGiven b n
 
   pub radii-refused : {r : Examined} → r ≡ examined (firstOf (radiiLayout b)) → isRefused r ≡ true
       → r ≡ examined (firstOf (ofDisturbance n b))
@@ -82,9 +87,14 @@ module _ (n : ℕ) (b : List ℕ) where
       unfolding firstOf
       radii-range e = rw (laid-order, eq-eqb (dimension b) n d, e)
 
-      pub radii-accepted : radiiOut b ≡ false → Accept.Accepted ≡ examined (firstOf (ofDisturbance n b))
-      unfolding firstOf
-      radii-accepted e = rw (laid-order, eq-eqb (dimension b) n d, e)
+      module _ (e : radiiOut b ≡ false) where
+        pub radii-unfilled : allZero (givenRadii b) ≡ true → Refused 14 ≡ examined (firstOf (ofDisturbance n b))
+        unfolding firstOf
+        radii-unfilled z = rw (laid-order, eq-eqb (dimension b) n d, e, z)
+
+        pub radii-accepted : allZero (givenRadii b) ≡ false → Accept.Accepted ≡ examined (firstOf (ofDisturbance n b))
+        unfolding firstOf
+        radii-accepted z = rw (laid-order, eq-eqb (dimension b) n d, e, z)
 
 -- ---- what is left where nothing refuses
 sizes-in : (l : List ℤ) → any (λ z. negative z || beyond maxDisturbance z) l ≡ false → any (ltb maxDisturbance) (map natAbs l) ≡ false
@@ -99,7 +109,7 @@ pub disturbance-in : (b : List ℕ) (s : PolyZonotope) → AcceptedRecord s → 
     → RadiiLaid b × Disturbable s (givenRadii b)
 unfolding firstOf givenRadii
 disturbance-in b s a e =
-    let numbers = ofNumbers (differs (dimension b) (s .dimension)) (radiiOut b) in
+    let numbers = ofGiven b (s .dimension) in
     let parts = neither (firstOf (radiiLayout b)) (firstOf numbers) (sym (first-append (radiiLayout b) numbers) ∙ e) in
     let same = passed (differs (dimension b) (s .dimension)) 5 (parts .1) in
     let small = passed (radiiOut b) 6 (same .1) in (

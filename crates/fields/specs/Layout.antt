@@ -56,14 +56,16 @@ module _ (counts : ℕ) (wrong : Bool) (bytes long : ℕ) where
 abbrev pub ofNumbers : Bool → Bool → List Cause
 ofNumbers dimension range = (5 if dimension) ∷ (6 if range) ∷ []
 
--- what is asked of a set in the body, and the result
+-- what is asked of a disturbance or of a set in the body, and the result
 abbrev pub ofRest : Bool → List Cause
-ofRest wide = (7 if false) ∷ (8 if false) ∷ (9 if false) ∷ (10 if wide) ∷ []
+ofRest wide = (14 if false) ∷ (7 if false) ∷ (8 if false) ∷ (9 if false) ∷ (10 if wide) ∷ []
+
+-- causes in three parts
+pub three-parts : (k l m : List Cause) → firstOf (k ++ (l ++ m)) ≡ orElse (firstOf k) (orElse (firstOf l) (firstOf m))
+three-parts k l m = first-append k (l ++ m) ∙ ap (orElse (firstOf k)) (first-append l m)
 
 pub in-parts : (k : List Cause) (dimension range wide : Bool)
     → firstOf (k ++ (ofNumbers dimension range ++ ofRest wide))
     ≡ orElse (firstOf k) (orElse (firstOf (ofNumbers dimension range)) (firstOf ((10 if wide) ∷ [])))
 unfolding firstOf
-in-parts k dimension range wide =
-    first-append k (ofNumbers dimension range ++ ofRest wide)
-    ∙ ap (orElse (firstOf k)) (first-append (ofNumbers dimension range) (ofRest wide))
+in-parts k dimension range wide = three-parts k (ofNumbers dimension range) (ofRest wide)

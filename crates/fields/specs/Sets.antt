@@ -129,8 +129,11 @@ module _ (b : List ℕ) where
   pub made-order : (n : ℕ) (many : Bool) (m : Zonotope) (next : ℕ)
       → firstOf (ofBody (ofSet b (differs (dimension b) n) many m [] next) (length b))
       ≡ orElse (firstOf (ofSummand n b)) (orElse (firstOf ((9 if many) ∷ [])) (ofResult m))
+  unfolding firstOf
   made-order n many m next =
-      first-append (ofSummand n b) _ ∙ ap (orElse (firstOf (ofSummand n b))) (first-append ((9 if many) ∷ []) _)
+      let result = (10 if tooWide m) ∷ [] in
+      first-append (ofSummand n b) ((9 if many) ∷ result)
+      ∙ ap (orElse (firstOf (ofSummand n b))) (first-append ((9 if many) ∷ []) result)
 
 -- ---- answers, by what is asked first
 -- what a reading says of its causes, and the set that it gives

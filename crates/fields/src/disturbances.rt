@@ -30,7 +30,7 @@ pub fn disturb(s: PolyZonotope, body: &[u8]) -> Changed
     read(s, body)
 }
 
-// The first cause that refuses radii for n coordinates: 3, 4, 3, 5, 6.
+// The first cause that refuses radii for n coordinates: 3, 4, 3, 5, 6, 14.
 fn of_body(n: usize, body: &[u8]) -> Examined
     ensures { λ r. ⌜ r ≡ examined (firstOf (ofDisturbance n (now (body .entry)))) ⌝ }
 {
@@ -43,6 +43,9 @@ fn of_body(n: usize, body: &[u8]) -> Examined
     }
     if bodies::radii_out(body) {
         return Examined::Refused(6);
+    }
+    if bodies::radii_empty(body) {
+        return Examined::Refused(14);
     }
     Examined::Accepted
 }

@@ -3,7 +3,8 @@ ghost use mathlib.Core.Path.{_≡_};
 ghost use mathlib.Core.Bool.{_||_};
 ghost use lib.Dec.{ltb};
 ghost use Rattle.whole.specs.Tab.{any};
-ghost use Rattle.model.specs.Limits.{maxTerms, maxGenerators, maxDisturbance};
+ghost use Rattle.model.specs.Limits.{maxTerms, maxGenerators};
+ghost use Rattle.model.specs.Field.{allZero};
 ghost use Rattle.model.specs.Run.{firstOf};
 ghost use Rattle.model.specs.Library.{ofRadii, ofLimits, badNext};
 ghost use Rattle.zonotope.specs.Record.{view, given};
@@ -44,8 +45,11 @@ fn of_radii(dimension: usize, n: usize, radii: &[u32]) -> Examined
     if n != dimension {
         return Examined::Refused(5);
     }
-    if radii_out(radii) {
+    if any_above(radii, MAX_DISTURBANCE) {
         return Examined::Refused(6);
+    }
+    if radii_empty(radii) {
+        return Examined::Refused(14);
     }
     Examined::Accepted
 }
@@ -96,14 +100,21 @@ fn limits_out(term_limit: usize, generator_limit: usize) -> bool
     (zonotope::MAX_TERMS < term_limit) | (zonotope::MAX_GENERATORS < generator_limit)
 }
 
-// 6: whether one of the radii is too large.
-fn radii_out(radii: &[u32]) -> bool
-    ensures { λ r. ⌜ r ≡ any (ltb maxDisturbance) (now (radii .entry)) ⌝ }
+// 6: whether one of the radii is above a limit.
+fn any_above(radii: &[u32], limit: u32) -> bool
+    ensures { λ r. ⌜ r ≡ any (ltb limit) (now (radii .entry)) ⌝ }
 {
     for i in 0..radii.len() {
-        if MAX_DISTURBANCE < radii[i] {
+        if limit < radii[i] {
             return true;
         }
     }
     false
+}
+
+// 14: whether the radii are all zero.
+fn radii_empty(radii: &[u32]) -> bool
+    ensures { λ r. ⌜ r ≡ allZero (now (radii .entry)) ⌝ }
+{
+    !any_above(radii, 0)
 }

@@ -2,7 +2,7 @@
 use mathlib.Core.Path.{sym, _∙_}
 use Rattle.answers.specs.Answer.{none-refuses}
 use Rattle.fields.specs.Layout.{laid-out}
-use Rattle.fields.specs.Disturbances.{RadiiLaid, radii-refused, radii-dimension, radii-range, radii-accepted}
+use Rattle.fields.specs.Disturbances.{RadiiLaid, radii-refused, radii-dimension, radii-range, radii-unfilled, radii-accepted}
 use borrow.Author.Needs.{needs}
 use Rattle.fields.proofs.disturbances.of_body.Statement.{statement}
 use Rattle.fields.proofs.disturbances.of_body.Tie as tie
@@ -43,13 +43,26 @@ returns-3 c =
     radii-range (a .n) (a .body .now) (body-laid i) (sym (d .before .byte-at .ensures .0) ∙ d .if2 .left)
     (sym (c .before .radii-out .ensures) ∙ c .if3 .taken)
 
+radii-empty-requires : tie.Need-radii-empty-requires
+radii-empty-requires c κs = body-laid (c .before .before .before .before) .whole
+
 returns-4 : tie.Need-returns-4
 returns-4 c =
-    let d = c .before .before in
+    let r = c .before .before in
+    let d = r .before .before in
+    let i = d .before .before in
+    let a = i .before .before .before .before .args in
+    radii-unfilled (a .n) (a .body .now) (body-laid i) (sym (d .before .byte-at .ensures .0) ∙ d .if2 .left)
+    (sym (r .before .radii-out .ensures) ∙ r .if3 .left) (sym (c .before .radii-empty .ensures) ∙ c .if4 .taken)
+
+returns-5 : tie.Need-returns-5
+returns-5 c =
+    let r = c .before .before in
+    let d = r .before .before in
     let i = d .before .before in
     let a = i .before .before .before .before .args in
     radii-accepted (a .n) (a .body .now) (body-laid i) (sym (d .before .byte-at .ensures .0) ∙ d .if2 .left)
-    (sym (c .before .radii-out .ensures) ∙ c .if3 .left)
+    (sym (r .before .radii-out .ensures) ∙ r .if3 .left) (sym (c .before .radii-empty .ensures) ∙ c .if4 .left)
 
 pub of-body-spec : {M : Type 1} → statement M
 of-body-spec =
@@ -62,4 +75,6 @@ of-body-spec =
     returns-2
     radii-out-requires
     returns-3
-    returns-4)
+    radii-empty-requires
+    returns-4
+    returns-5)

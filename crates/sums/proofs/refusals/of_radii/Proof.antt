@@ -29,8 +29,8 @@ returns-3 c =
     let l = c .before in
     rw (dimensions (l .before .before) (l .before .if1 .left), eq-eqb _ _ (l .if2 .left), ne-eqb _ _ (c .if3 .taken))
 
-radii-out-requires : tie.Need-radii-out-requires
-radii-out-requires c κs = search needs
+any-above-requires : tie.Need-any-above-requires
+any-above-requires c κs = search needs
 
 returns-4 : tie.Need-returns-4
 unfolding firstOf
@@ -41,19 +41,38 @@ returns-4 c =
       dimensions (l .before .before) (l .before .if1 .left),
       eq-eqb _ _ (l .if2 .left),
       eq-eqb _ _ (d .if3 .left),
-      sym (c .before .radii-out .ensures) ∙ c .if4 .taken,
+      sym (c .before .any-above .ensures) ∙ c .if4 .taken,
     )
+
+radii-empty-requires : tie.Need-radii-empty-requires
+radii-empty-requires c κs = search needs
 
 returns-5 : tie.Need-returns-5
 unfolding firstOf
 returns-5 c =
-    let d = c .before .before in
+    let r = c .before .before in
+    let d = r .before .before in
     let l = d .before in
     rw (
       dimensions (l .before .before) (l .before .if1 .left),
       eq-eqb _ _ (l .if2 .left),
       eq-eqb _ _ (d .if3 .left),
-      sym (c .before .radii-out .ensures) ∙ c .if4 .left,
+      sym (r .before .any-above .ensures) ∙ r .if4 .left,
+      sym (c .before .radii-empty .ensures) ∙ c .if5 .taken,
+    )
+
+returns-6 : tie.Need-returns-6
+unfolding firstOf
+returns-6 c =
+    let r = c .before .before in
+    let d = r .before .before in
+    let l = d .before in
+    rw (
+      dimensions (l .before .before) (l .before .if1 .left),
+      eq-eqb _ _ (l .if2 .left),
+      eq-eqb _ _ (d .if3 .left),
+      sym (r .before .any-above .ensures) ∙ r .if4 .left,
+      sym (c .before .radii-empty .ensures) ∙ c .if5 .left,
     )
 
 pub of-radii-spec : {M : Type 1} → statement M
@@ -64,6 +83,8 @@ of-radii-spec =
     returns
     returns-2
     returns-3
-    radii-out-requires
+    any-above-requires
     returns-4
-    returns-5)
+    radii-empty-requires
+    returns-5
+    returns-6)

@@ -1,4 +1,4 @@
--- `refusals::radii_out` meets its contract.
+-- `refusals::any_above` meets its contract.
 use borrow.Author.Needs.{needs}
 use native.Mathlib.Omega.{arith}
 use mathlib.Core.Path.{_≡_, refl, sym, _∙_}
@@ -8,17 +8,16 @@ use borrow.Author.Count.{below-more}
 use borrow.Author.Tests.{lt-ltb, le-ltb}
 use lib.Dec.{ltb}
 use lib.ListN.{length, getD}
-use Rattle.model.specs.Limits.{maxDisturbance}
 use Rattle.whole.specs.Tests.{any-found, any-none, any-list}
-use Rattle.sums.proofs.refusals.radii_out.Statement.{statement}
-use Rattle.sums.proofs.refusals.radii_out.Tie as tie
+use Rattle.sums.proofs.refusals.any_above.Statement.{statement}
+use Rattle.sums.proofs.refusals.any_above.Tie as tie
 
 abbrev Inv-loop : tie.InvT-loop
-Inv-loop radii i₀ i-end i =
-    (i-end ≡ length radii) × (i ≤ length radii) × ((k : ℕ) → k < i → ltb maxDisturbance (getD radii k 0) ≡ false)
+Inv-loop radii limit i₀ i-end i =
+    (i-end ≡ length radii) × (i ≤ length radii) × ((k : ℕ) → k < i → ltb limit (getD radii k 0) ≡ false)
 
 abbrev μ-loop : tie.MeasureT-loop
-μ-loop radii i₀ i-end i = length radii - i
+μ-loop radii limit i₀ i-end i = length radii - i
 
 loop-holds : tie.Need-loop-holds Inv-loop μ-loop
 loop-holds c = (refl, omega arith, λ k l. absurd (omega arith))
@@ -44,8 +43,8 @@ loop-again c = (refl, omega arith, below-more _ _ (c .before .before .before .lo
 returns-2 : tie.Need-returns-2 Inv-loop μ-loop
 returns-2 c = sym (any-list _ 0 _ ∙ any-none _ _ _ (λ k l. c .before .loop .inv .2 k (omega arith)))
 
-pub radii-out-spec : {M : Type 1} → statement M
-radii-out-spec =
+pub any-above-spec : {M : Type 1} → statement M
+any-above-spec =
     tie.close
     (tie.spec
     Inv-loop
