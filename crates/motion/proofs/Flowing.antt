@@ -18,6 +18,8 @@ use Rattle.console.specs.declared.Input.{Input}
 use Rattle.console.specs.declared.Filled.{Filled}
 use Rattle.console.specs.declared.Output.{Output}
 use Rattle.console.specs.Trace.{noInput, noOutput, took, wrote, FilledFrom}
+use Rattle.console.specs.History.{Read, tookAll, bytesOf, Write, wroteAll, handedOver, EndRead, WriteFailed}
+use Rattle.console.proofs.Traces.{took-more, bytes-more, wrote-more, handed-more}
 use Rattle.feeding.specs.declared.Progress.{Progress}
 use Rattle.feeding.specs.declared.Fed.{Fed}
 use Rattle.feeding.specs.Fed as Feeding
@@ -27,9 +29,8 @@ use Rattle.feeding.specs.Done.{Done}
 use Rattle.feeding.proofs.Turns.{fed-reached, fed-within, fed-place, fed-no-more, fed-falls, fed-prints, ready-by}
 use Rattle.feeding.proofs.Pieces.{starting-reached, starting-prints}
 use Rattle.motion.specs.declared.Flow.{Flow}
-use Rattle.motion.specs.Streamed.{Read, tookAll, bytesOf, Write, wroteAll, handedOver, EndRead, WriteFailed, Streamed}
+use Rattle.motion.specs.Streamed.{Streamed}
 use Rattle.motion.specs.Along.{startingFlow, heldBytes, Along, Refilled, callsLeft}
-use Rattle.motion.proofs.Traces.{took-more, bytes-more, wrote-more, handed-more}
 
 -- ---- the start
 pub flow-begun : {p : Progress} {i : Input} {o : Output} → p ≡ Feeding.starting → i ≡ noInput → o ≡ noOutput

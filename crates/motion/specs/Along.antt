@@ -7,10 +7,10 @@ use lib.ListN.{length, take}
 use Rattle.model.specs.Run.{cut}
 use Rattle.model.specs.Text.{printed}
 use Rattle.console.specs.Trace.{noInput, noOutput}
+use Rattle.console.specs.History.{Read, tookAll, bytesOf, Write, wroteAll, handedOver, EndRead, WriteFailed}
 use Rattle.feeding.specs.Fed as Feeding
 use Rattle.feeding.specs.Reached.{Reached, Placed, remaining, turnsLeft}
 use Rattle.motion.specs.declared.Flow.{Flow}
-use Rattle.motion.specs.Streamed.{Read, tookAll, bytesOf, Write, wroteAll, handedOver, EndRead, WriteFailed}
 
 -- before the first turn
 abbrev pub startingFlow : Flow

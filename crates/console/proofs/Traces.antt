@@ -1,10 +1,10 @@
 -- One read or one write more.
 use mathlib.Core.Path.{_≡_, refl, sym, ap, _∙_}
 use mathlib.Core.List.{List, [], _∷_, _++_, append-assoc, append-nil}
 use Rattle.console.specs.declared.Input.{Input}
 use Rattle.console.specs.declared.Output.{Output}
 use Rattle.console.specs.Trace.{took, wrote}
-use Rattle.motion.specs.Streamed.{Read, tookAll, bytesOf, Write, wroteAll, handedOver}
+use Rattle.console.specs.History.{Read, tookAll, bytesOf, Write, wroteAll, handedOver}
 
 pub took-more : (i : Input) (rs : List Read) (r : Read) → tookAll i (rs ++ (r ∷ [])) ≡ took (tookAll i rs) (r .asked) (r .bytes)
 unfolding tookAll
