@@ -1,0 +1,221 @@
+-- A turn of the program keeps what it knows.
+use mathlib.Core.Path.{_≡_, refl, sym, ap, ap₂, _∙_, subst}
+use mathlib.Core.Bool.{Bool, true, false, not, cond, _||_, true≢false}
+use mathlib.Core.List.{List, [], _∷_, _++_, append-assoc, append-nil}
+use Prim.Native.Nat.{ℕ, _+_, _-_, _<_}
+use native.Mathlib.Omega.{arith}
+use borrow.Author.Tests.{eqb-true, eqb-false, eq-eqb, ne-eqb, not-true}
+use lib.Dec.{eqb}
+use lib.ListN.{length, take, length-append}
+use lib.Seq.{length-take-le}
+use Rattle.whole.specs.Tests.{or-left, or-right}
+use Rattle.model.specs.Rewrite.{rewritten}
+use Rattle.text.specs.Appended.{Appended, named}
+use Rattle.console.specs.declared.Input.{Input}
+use Rattle.console.specs.declared.Filled.{Filled}
+use Rattle.console.specs.declared.Output.{Output}
+use Rattle.console.specs.Trace.{noInput, noOutput, took, wrote, FilledFrom}
+use Rattle.console.specs.History.{Read, tookAll, bytesOf, Write, wroteAll, handedOver, EndRead, WriteFailed}
+use Rattle.console.proofs.Traces.{took-more, bytes-more, wrote-more, handed-more}
+use Rattle.rewriting.specs.declared.Held.{Held}
+use Rattle.rewriting.specs.declared.Given.{Given}
+use Rattle.rewriting.specs.Given as Rewriting
+use Rattle.rewriting.specs.Given.{heldBytes, Handed, manyBytes}
+use Rattle.rewriting.specs.Reached.{Reached, remaining}
+use Rattle.rewriting.specs.Done.{Done}
+use Rattle.rewriting.proofs.OneByte.{held-last, held-below}
+use Rattle.rewriting.proofs.ManyBytes.{many-kept}
+use Rattle.rewriting.proofs.Pieces.{starting-reached, starting-remains}
+use Rattle.rewrite.specs.declared.Flow.{Flow}
+use Rattle.rewrite.specs.Streamed.{mostReads, Streamed}
+use Rattle.rewrite.specs.Along.{startingFlow, passed, stillLeft, Along, TurnMade}
+
+-- ---- the start
+pub flow-begun : {h : Held} {i : Input} {o : Output} → h ≡ Rewriting.starting → i ≡ noInput → o ≡ noOutput
+    → record { held = h; allowed = mostReads; ended = false; failed = false; input = i; output = o } ≡ startingFlow
+flow-begun e g h = ap₃ e g h
+  where
+    ap₃ : {h k : Held} {i j : Input} {o u : Output} → h ≡ k → i ≡ j → o ≡ u
+        → _≡_ {A = Flow} (record { held = h; allowed = mostReads; ended = false; failed = false; input = i; output = o })
+        (record { held = k; allowed = mostReads; ended = false; failed = false; input = j; output = u })
+    ap₃ e g h = rw (e, g, h)
+
+along-begins : Along startingFlow
+unfolding tookAll wroteAll bytesOf handedOver
+along-begins = record {
+  reached = starting-reached;
+  reads = [];
+  writes = [];
+  made = refl;
+  input = refl;
+  output = refl;
+  end-read = λ e. absurd (true≢false (sym e));
+  write-failed = λ e. absurd (true≢false (sym e));
+  rewrites = λ more last. sym (starting-remains more);
+}
+
+-- ---- what comes of a read
+module _ (h : Held) (came : List ℕ) where
+  at-end : length came ≡ 0 → passed h came ≡ record { held = h; text = heldBytes h }
+  unfolding passed
+  at-end e = ap (λ x. cond x (record { held = h; text = heldBytes h }) (manyBytes h came)) (eq-eqb (length came) 0 e)
+
+  on-the-way : (length came ≡ 0 → ⊥) → passed h came ≡ manyBytes h came
+  unfolding passed
+  on-the-way e = ap (λ x. cond x (record { held = h; text = heldBytes h }) (manyBytes h came)) (ne-eqb (length came) 0 e)
+
+  pub pass-end : {before after : List ℕ} {w : ℕ} → length came ≡ 0 → Appended 28 before after 0 w (heldBytes h)
+      → Done (length came + 28) (passed h came) before after 0 (record { held = h; written = w })
+  pass-end e a = record {
+    held = sym (ap (λ (s : Handed). s .held) (at-end e));
+    text = named (omega arith) (sym (ap (λ (s : Handed). s .text) (at-end e))) a;
+  }
+
+  pub pass-more : {before after : List ℕ} {g : Given} → Reached h → (length came ≡ 0 → ⊥)
+      → Done (h .count + length came) (manyBytes h came) before after 0 g → Done (length came + 28) (passed h came) before after 0 g
+  pass-more r e d = record {
+    held = d .held ∙ sym (ap (λ (s : Handed). s .held) (on-the-way e));
+    text = named (omega (arith, held-below h r)) (sym (ap (λ (s : Handed). s .text) (on-the-way e))) (d .text);
+  }
+
+  module _ (r : Reached h) where
+    passed-reached : Reached (passed h came .held)
+    unfolding passed
+    passed-reached = go (eqb (length came) 0)
+      where
+        go : (x : Bool) → Reached (cond x (record { held = h; text = heldBytes h }) (manyBytes h came) .held)
+        go true = r
+        go false = many-kept h came r .reached
+
+    passed-remains : (more : List ℕ) → (eqb (length came) 0 ≡ true → more ≡ [])
+        → remaining h (came ++ more) ≡ passed h came .text ++ cond (eqb (length came) 0) [] (remaining (passed h came .held) more)
+    unfolding passed
+    passed-remains more last = go (eqb (length came) 0) refl
+      where
+        none : (l : List ℕ) → length l ≡ 0 → l ≡ []
+        none [] e = refl
+        none (x ∷ l) e = absurd (omega arith)
+
+        go : (x : Bool) → eqb (length came) 0 ≡ x → (let s = cond x (record { held = h; text = heldBytes h }) (manyBytes h came) in
+            remaining h (came ++ more) ≡ s .text ++ cond x [] (remaining (s .held) more))
+        go true e =
+            ap₂ (λ x y. remaining h (x ++ y)) (none came (eqb-true (length came) 0 e)) (last e)
+            ∙ held-last h r ∙ sym (append-nil (heldBytes h))
+        go false e = many-kept h came r .remains more
+
+-- ---- a turn
+-- B was filled, what it brought was passed, and the text handed over
+module _ (f : Flow) (B : List ℕ) (a : Along f) (on : f .ended ≡ false) (r : Filled) (filled : FilledFrom (f .input) B r)
+    (some : 0 < length B) {most : ℕ} {out out' : List ℕ} (g : Given) (d : Done most (passed (f .held) (take (r .count) B)) out out' 0 g)
+    (o : Output) (whole : Bool) (sent : o ≡ wrote (f .output) (take (g .written) out') whole) where
+  abbrev came : List ℕ
+  came = take (r .count) B
+
+  abbrev text : List ℕ
+  text = passed (f .held) came .text
+
+  abbrev this : Read
+  this = record { asked = length B; bytes = came }
+
+  abbrev now-written : Write
+  now-written = record { bytes = text; whole = whole }
+
+  abbrev next : Flow
+  next = record {
+    held = g .held;
+    allowed = f .allowed - 1;
+    ended = eqb (r .count) 0;
+    failed = not whole;
+    input = r .input;
+    output = o;
+  }
+
+  came-count : length came ≡ r .count
+  came-count = length-take-le (r .count) B (filled .within)
+
+  end-met : eqb (r .count) 0 ≡ true → EndRead (a .reads ++ (this ∷ []))
+  end-met e = record {
+    before = a .reads;
+    asked = length B;
+    some = some;
+    last = ap (λ (l : List ℕ). a .reads ++ (record { asked = length B; bytes = l } ∷ [])) (ap (λ n. take n B) (eqb-true (r .count) 0 e));
+  }
+
+  failed-write : not whole ≡ true → WriteFailed (a .writes ++ (now-written ∷ []))
+  failed-write e = record {
+    before = a .writes;
+    bytes = text;
+    last = ap (λ b. a .writes ++ (record { bytes = text; whole = b } ∷ [])) (not-true whole e);
+  }
+
+  turn-rewrites : (more : List ℕ) → (eqb (r .count) 0 ≡ true → more ≡ [])
+      → rewritten (bytesOf (a .reads ++ (this ∷ [])) ++ more) ≡ handedOver (a .writes ++ (now-written ∷ [])) ++ stillLeft next more
+  turn-rewrites more last =
+      let same = came-count in
+      ap (λ l. rewritten (l ++ more)) (bytes-more (a .reads) this)
+      ∙ ap rewritten (append-assoc (bytesOf (a .reads)) came more)
+      ∙ a .rewrites (came ++ more) (λ e. absurd (true≢false (sym e ∙ on)))
+      ∙ ap (λ x. handedOver (a .writes) ++ cond x [] (remaining (f .held) (came ++ more))) on
+      ∙ ap (handedOver (a .writes) ++_) (passed-remains (f .held) came (a .reached) more
+      (λ e. last (ap (λ n. eqb n 0) (sym same) ∙ e)))
+      ∙ sym (append-assoc (handedOver (a .writes)) text _)
+      ∙ ap₂ _++_ (sym (handed-more (a .writes) now-written))
+      (ap₂ (λ n h. cond (eqb n 0) [] (remaining h more)) same (sym (d .held)))
+
+  turn-along : 0 < f .allowed → Along next
+  turn-along l = record {
+    reached = subst Reached (sym (d .held)) (passed-reached (f .held) came (a .reached));
+    reads = a .reads ++ (this ∷ []);
+    writes = a .writes ++ (now-written ∷ []);
+    made = omega (arith, length-append (a .reads) (this ∷ []), a .made);
+    input = filled .next ∙ ap (λ i. took i (length B) came) (a .input) ∙ sym (took-more noInput (a .reads) this);
+    output = sent ∙ ap₂ (λ x y. wrote x y whole) (a .output) (d .text .text) ∙ sym (wrote-more noOutput (a .writes) now-written);
+    end-read = end-met;
+    write-failed = failed-write;
+    rewrites = turn-rewrites;
+  }
+
+  pub turn-done : 0 < f .allowed → TurnMade f next
+  turn-done l = record { along = turn-along l; fewer = omega arith }
+
+-- ---- the loop
+-- whether the program is over
+abbrev pub isOver : Flow → Bool
+isOver f = (f .ended || f .failed) || eqb (f .allowed) 0
+
+pub starts : {f : Flow} → f ≡ startingFlow → Along f × (false ≡ isOver f)
+starts e = subst (λ (f : Flow). Along f × (false ≡ isOver f)) (sym e) (along-begins, refl)
+
+module _ (f : Flow) (off : isOver f ≡ false) where
+  pub not-ended : f .ended ≡ false
+  not-ended = or-left (f .ended) (f .failed) (or-left (f .ended || f .failed) (eqb (f .allowed) 0) off)
+
+  pub some-allowed : 0 < f .allowed
+  some-allowed = omega (arith, eqb-false (f .allowed) 0 (or-right (f .ended || f .failed) (eqb (f .allowed) 0) off))
+
+-- ---- the end
+pub streamed : (f : Flow) → Along f → isOver f ≡ true → Streamed f
+streamed f a over = record {
+  reads = a .reads;
+  writes = a .writes;
+  input = a .input;
+  output = a .output;
+  end-read = a .end-read;
+  write-failed = a .write-failed;
+  over = λ e g. omega (arith, a .made, used-up e g);
+  all = λ went e. sym (all-written e);
+  begins = λ more last. (stillLeft f more, a .rewrites more last);
+}
+  where
+    third : (x y z : Bool) → (x || y) || z ≡ true → x ≡ false → y ≡ false → z ≡ true
+    third true y z h e g = absurd (true≢false e)
+    third false true z h e g = absurd (true≢false g)
+    third false false z h e g = h
+
+    used-up : f .ended ≡ false → f .failed ≡ false → f .allowed ≡ 0
+    used-up e g = eqb-true (f .allowed) 0 (third (f .ended) (f .failed) (eqb (f .allowed) 0) over e g)
+
+    all-written : f .ended ≡ true → rewritten (bytesOf (a .reads)) ≡ handedOver (a .writes)
+    all-written e =
+        ap rewritten (sym (append-nil (bytesOf (a .reads)))) ∙ a .rewrites [] (λ _. refl)
+        ∙ ap (λ x. handedOver (a .writes) ++ cond x [] (remaining (f .held) [])) e ∙ append-nil (handedOver (a .writes))

@@ -1,0 +1,54 @@
+-- What the program knows between turns.
+use mathlib.Core.Path.{_≡_}
+use mathlib.Core.List.{List, [], _++_}
+use mathlib.Core.Bool.{true, false, cond}
+use Prim.Native.Nat.{ℕ, _+_, _<_}
+use lib.Dec.{eqb}
+use lib.ListN.{length}
+use Rattle.model.specs.Rewrite.{rewritten}
+use Rattle.console.specs.Trace.{noInput, noOutput}
+use Rattle.console.specs.History.{Read, tookAll, bytesOf, Write, wroteAll, handedOver, EndRead, WriteFailed}
+use Rattle.rewriting.specs.declared.Held.{Held}
+use Rattle.rewriting.specs.Given as Rewriting
+use Rattle.rewriting.specs.Given.{heldBytes, Handed, manyBytes}
+use Rattle.rewriting.specs.Reached.{Reached, remaining}
+use Rattle.rewrite.specs.declared.Flow.{Flow}
+use Rattle.rewrite.specs.Streamed.{mostReads}
+
+-- before the first turn
+abbrev pub startingFlow : Flow
+startingFlow = record {
+  held = Rewriting.starting;
+  allowed = mostReads;
+  ended = false;
+  failed = false;
+  input = noInput;
+  output = noOutput;
+}
+
+-- what comes of a read: where it brought nothing, the input has ended, and what is held is written
+unfoldable pub passed : Held → List ℕ → Handed
+passed h came = cond (eqb (length came) 0) (record { held = h; text = heldBytes h }) (manyBytes h came)
+
+-- what is still to be written where this much of the input is still to come; nothing is after the end
+abbrev pub stillLeft : Flow → List ℕ → List ℕ
+stillLeft f more = cond (f .ended) [] (remaining (f .held) more)
+
+-- after some turns
+pub record Along (f : Flow) : Type 0 where
+  pub reached : Reached (f .held)
+  pub reads : List Read
+  pub writes : List Write
+  pub made : length reads + f .allowed ≡ mostReads
+  pub input : f .input ≡ tookAll noInput reads
+  pub output : f .output ≡ wroteAll noOutput writes
+  pub end-read : f .ended ≡ true → EndRead reads
+  pub write-failed : f .failed ≡ true → WriteFailed writes
+  -- what was written, and what is still to be
+  pub rewrites : (more : List ℕ) → (f .ended ≡ true → more ≡ [])
+      → rewritten (bytesOf reads ++ more) ≡ handedOver writes ++ stillLeft f more
+
+-- after one turn more
+pub record TurnMade (f r : Flow) : Type 0 where
+  pub along : Along r
+  pub fewer : r .allowed < f .allowed
