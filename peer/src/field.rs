@@ -24,6 +24,12 @@ pub fn is_known_tag(tag: u8) -> bool {
     (1..=9).contains(&tag)
 }
 
+/// The tag and the body of the field at the front of the input; none if the input ends inside it.
+pub fn whole(input: &[u8]) -> Option<(u8, &[u8])> {
+    let [tag, low, high, rest @ ..] = input else { return None };
+    Some((*tag, rest.get(..usize::from(u16::from_le_bytes([*low, *high])))?))
+}
+
 /// How many bytes at the start of a body are counts.
 pub fn count_bytes(tag: u8) -> usize {
     match tag {

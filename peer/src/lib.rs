@@ -1,6 +1,6 @@
-//! A second implementation of document 01 and of document 02's hull, ranged step, rounding and parts of the radius,
-//! from their words alone, in the plainest style: wide integers and vectors. It is what the proved program is held
-//! against.
+//! A second implementation of document 01 and of document 02's hull, ranged step, rounding, parts of the radius and
+//! refusal of empty disturbances, from their words alone, in the plainest style: wide integers and vectors. It is what
+//! the proved programs are held against.
 
 pub mod bounds;
 pub mod command;
@@ -15,6 +15,7 @@ pub mod number;
 pub mod plan;
 pub mod program;
 pub mod random;
+pub mod rewrite;
 pub mod run;
 pub mod set;
 pub mod show;

@@ -4,22 +4,26 @@
 use std::process::ExitCode;
 
 use peer::command::{failure, input, output, status, Done};
-use peer::compare::{compare, Failure};
+use peer::compare::{compare, Failure, Task, MOTION, REWRITE};
 use peer::workload::WORKLOADS;
-use peer::{follow, generate, text};
+use peer::{follow, generate, rewrite, text};
 
 const MAX_MOTIONS: u64 = 65_536;
 const FILES: u64 = 4_000;
+const FILES_TO_REWRITE: u64 = 1_200;
 
 const USAGE: &str = "usage:
   peer motion < run                    the lines of document 01's program
   peer sets < run                      the same with the whole set after each field
   peer follow [MOTIONS [SEED]] < run   motions sampled with exact fractions; status 1 if one escapes
+  peer rewrite < run > run             a stored file without disturbances whose radii are all 0
   peer generate [KIND SEED] > run      a run file to try programs with; without arguments the kinds
   peer workload [NAME] > run           a run file to measure programs with; without argument the names
   peer compare PROGRAM [WORD..] [--files N] [--seed S]
                                        a program held against this one on N generated files (4,000 if not said);
                                        status 1, and the file, at the first difference
+  peer compare-rewrite PROGRAM [WORD..] [--files N] [--seed S]
+                                       the same for a program that rewrites (1,200 files if not said)
 ";
 
 fn main() -> ExitCode {
@@ -29,9 +33,11 @@ fn main() -> ExitCode {
         ["motion"] => input().and_then(|bytes| output(text::motion(&bytes).as_bytes())),
         ["sets"] => input().and_then(|bytes| output(text::sets(&bytes).as_bytes())),
         ["follow", numbers @ ..] if numbers.len() <= 2 => follow(numbers),
+        ["rewrite"] => input().and_then(|bytes| output(&rewrite::rewrite(&bytes))),
         ["generate"] => output(kinds().as_bytes()),
         ["generate", kind, seed] => generate(kind, seed),
-        ["compare", words @ ..] => compared(words),
+        ["compare", words @ ..] => compared(&MOTION, FILES, words),
+        ["compare-rewrite", words @ ..] => compared(&REWRITE, FILES_TO_REWRITE, words),
         ["workload"] => output(workloads().as_bytes()),
         ["workload", name] => workload(name),
         ["help" | "--help" | "-h"] => output(USAGE.as_bytes()),
@@ -61,10 +67,10 @@ fn generate(name: &str, seed: &str) -> Done {
     }
 }
 
-fn compared(words: &[&str]) -> Done {
+fn compared(task: &Task, files: u64, words: &[&str]) -> Done {
     let (program, mut options) =
         words.split_at(words.iter().position(|word| word.starts_with("--")).unwrap_or(words.len()));
-    let (mut files, mut seed) = (FILES, 1);
+    let (mut files, mut seed) = (files, 1);
     while let [name, value, rest @ ..] = options {
         match *name {
             "--files" => files = number(value)?,
@@ -77,7 +83,7 @@ fn compared(words: &[&str]) -> Done {
         return Err(failure(2, USAGE));
     }
     let program = program.iter().map(|word| word.to_string()).collect();
-    match compare(program, files as usize, seed) {
+    match compare(task, program, files as usize, seed) {
         Ok(tally) => output(format!("{tally}\n").as_bytes()),
         Err(Failure::Difference(what)) => Err(failure(1, &format!("difference: {what}\n"))),
         Err(Failure::Run(error)) => Err(failure(2, &format!("cannot run the program: {error}\n"))),
@@ -85,7 +91,7 @@ fn compared(words: &[&str]) -> Done {
 }
 
 fn kinds() -> String {
-    generate::kinds().map(|kind| format!("{:<11} {}\n", kind.name, kind.about)).collect()
+    generate::kinds().map(|kind| format!("{:<13} {}\n", kind.name, kind.about)).collect()
 }
 
 fn workload(name: &str) -> Done {

@@ -16,7 +16,7 @@
 //!   A+- 205 0 / 0 205              the half-width of each entry of A; zeros if left out, as for each Q
 //!   Q+- 2 : 0 1 / 1 0
 //! disturbance N
-//!   radii 1 1
+//!   radii 1 1                      a run refuses zeros alone
 //! check N                          1 to 8 halfspaces a·x ≤ b that bound the unsafe region
 //!   halfspace 4096 0 : -16777217   a, then b
 //! reduce 20 10                     terms, generators

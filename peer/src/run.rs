@@ -1,7 +1,7 @@
 //! The run: fields read one after the other, each accepted or refused; the first refusal ends it.
 
 use crate::bounds::{bounding_box, is_safe};
-use crate::field::{count_bytes, counts_fit, decode, expected_length, is_known_tag, Field, HEADER};
+use crate::field::{count_bytes, counts_fit, decode, expected_length, is_known_tag, whole, Field, HEADER};
 use crate::finish::{finish, Finished, Folds};
 use crate::hull::hull;
 use crate::set::{all_given, Set};
@@ -14,7 +14,7 @@ pub const FIRST_MARK: i128 = 65_536;
 pub const MAX_FIELDS: usize = 4_096;
 pub const MAX_DISTURBANCE: i128 = CONSTANT_LIMIT;
 
-/// Why a field is refused, with document 01's number; 11 and 13 belong to a library's calls.
+/// Why a field is refused, with the papers' number; 11 and 13 belong to a library's calls.
 #[derive(Clone, Copy, Debug, PartialEq, Eq, PartialOrd, Ord)]
 pub enum Cause {
     InputEnds = 1,
@@ -28,6 +28,7 @@ pub enum Cause {
     Factors = 9,
     ResultSpan = 10,
     TooManyFields = 12,
+    EmptyDisturbance = 14,
 }
 
 #[derive(Clone, Copy, Debug, PartialEq, Eq)]
@@ -121,7 +122,7 @@ impl Iterator for Run<'_> {
 }
 
 /// The field at the front of the input and its length in bytes, or one of 12, 2, 1, 3, 4, 3.
-fn read_field(input: &[u8], number: usize) -> Result<(Field, usize), Cause> {
+pub fn read_field(input: &[u8], number: usize) -> Result<(Field, usize), Cause> {
     if number > MAX_FIELDS {
         return Err(Cause::TooManyFields);
     }
@@ -129,11 +130,7 @@ fn read_field(input: &[u8], number: usize) -> Result<(Field, usize), Cause> {
     if !is_known_tag(tag) || (tag == 1) != (number == 0) {
         return Err(Cause::Tag);
     }
-    let body = match input {
-        [_, low, high, rest @ ..] => rest.get(..usize::from(u16::from_le_bytes([*low, *high]))),
-        _ => None,
-    };
-    let body = body.ok_or(Cause::InputEnds)?;
+    let (_, body) = whole(input).ok_or(Cause::InputEnds)?;
     if body.len() < count_bytes(tag) {
         return Err(Cause::Length);
     }
@@ -146,7 +143,7 @@ fn read_field(input: &[u8], number: usize) -> Result<(Field, usize), Cause> {
     Ok((decode(tag, body), HEADER + body.len()))
 }
 
-/// The finished set after a field whose counts fit, and the mark, or one of 5 to 10.
+/// The finished set after a field whose counts fit, and the mark, or one of 5 to 10 and 14.
 pub fn apply(field: &Field, state: &State) -> Result<(Finished, i128), Cause> {
     if let (Some(taken), Some(set)) = (field.taken_dimension(), &state.set) {
         if taken != set.dimension() {
@@ -185,7 +182,7 @@ pub fn apply(field: &Field, state: &State) -> Result<(Finished, i128), Cause> {
     Ok((finished, mark))
 }
 
-/// 6, 7 and 8: what a body can have wrong by itself.
+/// 6, 14, 7 and 8: what a body can have wrong by itself.
 fn look_at_body(field: &Field) -> Result<(), Cause> {
     let in_range = match field {
         Field::Start(body) | Field::Independent(body) | Field::Tied(body) | Field::Hull(body) => body.is_in_range(),
@@ -197,6 +194,9 @@ fn look_at_body(field: &Field) -> Result<(), Cause> {
     };
     if !in_range {
         return Err(Cause::Range);
+    }
+    if matches!(field, Field::Disturbance(radii) if radii.iter().all(|r| *r == 0)) {
+        return Err(Cause::EmptyDisturbance);
     }
     if let Field::Start(body) | Field::Independent(body) | Field::Tied(body) | Field::Hull(body) = field {
         if !body.keeps_rules() {

@@ -1,12 +1,12 @@
 //! Run files aimed at one refusal, and at the order of refusals.
 
 use super::faults::{body_of, break_count, break_length, break_rule, break_tag, out_of_range, widen};
-use super::plain::{plain_set, unchanged, zero_ranged, zero_step};
-use super::valid::{next_field, prefix, Builder, MIXED};
+use super::plain::{empty_disturbance, plain_set, unchanged, zero_ranged, zero_step};
+use super::valid::{next_field, prefix, Builder, MIXED, WIDE};
 use crate::field::Field;
 use crate::random::Random;
 use crate::run::{State, MAX_DISTURBANCE, MAX_FIELDS};
-use crate::set::{Set, MAX_FACTORS, SPAN_LIMIT};
+use crate::set::{Set, MAX_DIMENSION, MAX_FACTORS, SPAN_LIMIT};
 use crate::step::{CONSTANT_LIMIT, ENTRY_LIMIT, UNIT};
 
 /// A file that a run refuses with this number.
@@ -19,6 +19,12 @@ pub fn refused(random: &mut Random, number: u8) -> Vec<u8> {
         }
         10 => too_wide_result(random),
         12 => [unchanged(MAX_FIELDS), random_bytes(random, 1)].concat(),
+        14 => {
+            let fields = random.below(9);
+            let Builder { bytes, state } = prefix(random, &MIXED, fields);
+            let empty = empty_disturbance(state.set.map_or(1, |set| set.dimension()));
+            [bytes, empty.encode(), random_bytes(random, 0)].concat()
+        }
         _ => {
             let mut builder = some_prefix(random);
             let mut bytes = loop {
@@ -63,6 +69,9 @@ pub fn several_causes(random: &mut Random) -> Vec<u8> {
         }
         _ => fitting_field(random, &state),
     };
+    if let (true, Field::Disturbance(radii)) = (random.once_in(2), &mut field) {
+        radii.fill(0);
+    }
     if random.once_in(2) {
         out_of_range(random, &mut field);
     }
@@ -91,6 +100,46 @@ pub fn several_causes(random: &mut Random) -> Vec<u8> {
         before = unchanged(MAX_FIELDS);
     }
     [before, bytes].concat()
+}
+
+/// A disturbance of zeros with up to two things changed, at any place in a run.
+pub fn zeros(random: &mut Random) -> Vec<u8> {
+    let Builder { bytes: mut before, state } = match random.below(8) {
+        0 => Builder::empty(),
+        _ => {
+            let (profile, fields) = (*random.pick(&[&MIXED, &WIDE]), random.below(4));
+            prefix(random, profile, fields)
+        }
+    };
+    let n = state.set.map_or(1, |set| set.dimension());
+    let mut field = match random.below(5) {
+        0 => empty_disturbance(1 + random.below(MAX_DIMENSION)),
+        _ => empty_disturbance(n),
+    };
+    match random.below(4) {
+        0 => {
+            out_of_range(random, &mut field);
+        }
+        1 => field = one_radius(random, n),
+        _ => {}
+    }
+    let mut bytes = field.encode();
+    match random.below(8) {
+        0 => break_count(random, &mut bytes),
+        1 => break_length(random, &mut bytes),
+        2 => bytes.truncate(1 + random.below(bytes.len())),
+        3 => before = unchanged(MAX_FIELDS - random.below(2)),
+        _ => {}
+    }
+    let after = if random.once_in(2) { Vec::new() } else { random_bytes(random, 0) };
+    [before, bytes, after].concat()
+}
+
+/// A disturbance of zeros but for one radius, the smallest or the largest.
+fn one_radius(random: &mut Random, n: usize) -> Field {
+    let mut radii = vec![0; n];
+    radii[random.below(n)] = *random.pick(&[1, MAX_DISTURBANCE]);
+    Field::Disturbance(radii)
 }
 
 /// Nothing, so that the field is the first, or a short valid run.

@@ -12,6 +12,12 @@ pub fn cut(random: &mut Random) -> Vec<u8> {
 
 pub fn damaged(random: &mut Random) -> Vec<u8> {
     let mut bytes = run(random, &MIXED);
+    damage(random, &mut bytes);
+    bytes
+}
+
+/// Changes, loses or adds up to four of the bytes.
+pub fn damage(random: &mut Random, bytes: &mut Vec<u8>) {
     for _ in 0..1 + random.below(4) {
         let place = random.below(bytes.len());
         match random.below(4) {
@@ -23,7 +29,6 @@ pub fn damaged(random: &mut Random) -> Vec<u8> {
             }
         }
     }
-    bytes
 }
 
 pub fn bytes(random: &mut Random) -> Vec<u8> {
@@ -67,6 +72,6 @@ pub fn long_field(random: &mut Random) -> Vec<u8> {
     bytes
 }
 
-fn noise(random: &mut Random, limit: usize) -> Vec<u8> {
+pub fn noise(random: &mut Random, limit: usize) -> Vec<u8> {
     (0..random.below(limit)).map(|_| random.word() as u8).collect()
 }

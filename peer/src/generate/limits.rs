@@ -15,7 +15,7 @@ use crate::set::{
 use crate::step::{CONSTANT_LIMIT, ENTRY_LIMIT, UNIT};
 
 /// How many numbers have a limit here, and how many counts.
-const NUMBERS: u64 = 25;
+const NUMBERS: u64 = 26;
 const COUNTS: u64 = 22;
 
 /// Numbers within 1 of a limit, first of one sign, then of the other.
@@ -65,7 +65,7 @@ pub fn number(random: &mut Random, seed: u64) -> Vec<u8> {
         8 => vec![start, Field::Check(vec![Halfspace { normal: vec![0, sign * (ENTRY_LIMIT + by)], bound: 0 }])],
         9 => vec![start, Field::Check(vec![Halfspace { normal: vec![1, -1], bound: sign * (BOUND_LIMIT + by) }])],
         10 => vec![empty, Field::Disturbance(vec![MAX_DISTURBANCE + by, MAX_DISTURBANCE])],
-        11 => vec![start, Field::Disturbance(vec![0, by])],
+        11 => vec![start, Field::Disturbance(vec![1, by])],
         12 => vec![start, Field::Disturbance(vec![SPAN_LIMIT - 2 + by, 0])],
         13 | 14 => {
             // A term with itself, or two terms, have an exponent of about 63 together.
@@ -130,7 +130,7 @@ pub fn number(random: &mut Random, seed: u64) -> Vec<u8> {
             step.constant = current.centre.iter().map(|k| sign_of(*k) * (SPAN_LIMIT + by - 1_000)).collect();
             vec![Field::Start(current), Field::Step(step)]
         }
-        _ => {
+        24 => {
             // In a set with spans of 1.0 a half-width adds itself to the radius.
             let mut current = plain_set(2, 1, 2, 1);
             widen_to(random, &mut current, UNIT);
@@ -146,6 +146,7 @@ pub fn number(random: &mut Random, seed: u64) -> Vec<u8> {
             }
             vec![Field::Start(current), Field::Ranged(ranged)]
         }
+        _ => vec![start, Field::Disturbance(vec![0, by])],
     };
     fields.iter().flat_map(Field::encode).collect()
 }
@@ -167,7 +168,7 @@ pub fn count(random: &mut Random, seed: u64) -> Vec<u8> {
         7 => vec![start, Field::Step(zero_step(near(MAX_DIMENSION), 2))],
         8 => vec![start, Field::Step(zero_step(near(1), 2))],
         9 => vec![set(MAX_DIMENSION, 0, 0, 0), Field::Step(zero_step(2, near(MAX_DIMENSION)))],
-        10 => vec![set(MAX_DIMENSION, 0, 0, 0), Field::Disturbance(vec![0; near(MAX_DIMENSION)])],
+        10 => vec![set(MAX_DIMENSION, 0, 0, 0), Field::Disturbance(vec![1; near(MAX_DIMENSION)])],
         11 => vec![start, Field::Reduce(Limits { terms: near(MAX_TERMS), generators: MAX_GENERATORS })],
         12 => vec![start, Field::Reduce(Limits { terms: 0, generators: near(MAX_GENERATORS) })],
         13 => vec![start, region(near(MAX_HALFSPACES))],

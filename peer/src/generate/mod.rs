@@ -8,6 +8,7 @@ mod limits;
 mod parts;
 mod plain;
 mod ranges;
+mod stored;
 mod valid;
 
 use crate::random::Random;
@@ -52,7 +53,7 @@ pub static VALID: [Kind; 20] = [
 ];
 
 /// The kinds whose files are refused with the number in their name.
-pub static REFUSED: [Kind; 11] = [
+pub static REFUSED: [Kind; 12] = [
     kind("refusal-1", "input that ends inside a field, or is empty", |r| aimed::refused(r, 1)),
     kind("refusal-2", "an unknown or misplaced tag", |r| aimed::refused(r, 2)),
     kind("refusal-3", "a length that the counts don't give", |r| aimed::refused(r, 3)),
@@ -64,11 +65,13 @@ pub static REFUSED: [Kind; 11] = [
     kind("refusal-9", "a sum or hull with too many factors", |r| aimed::refused(r, 9)),
     kind("refusal-10", "a result that is too wide", |r| aimed::refused(r, 10)),
     kind("refusal-12", "a field after the last that may follow", |r| aimed::refused(r, 12)),
+    kind("refusal-14", "a disturbance whose radii are all 0", |r| aimed::refused(r, 14)),
 ];
 
-pub static OTHERS: [Kind; 10] = [
+pub static OTHERS: [Kind; 11] = [
     long("plain-4098", "one field more than a run may have", |r| plain::little_changed(r, MAX_FIELDS + 1)),
     kind("order", "several causes of refusal in one field", aimed::several_causes),
+    kind("zeros", "a disturbance of zeros, and what comes before its refusal", aimed::zeros),
     in_turn("limits", "a number at its limit, one below or one above", limits::number),
     in_turn("counts", "a count at its limit, one below or one above", limits::count),
     kind("fullest", "sets and a step with all counts at their limits", limits::fullest),
@@ -77,6 +80,21 @@ pub static OTHERS: [Kind; 10] = [
     kind("cut", "a valid file cut somewhere", damage::cut),
     kind("damaged", "a valid file with bytes changed, lost or added", damage::damaged),
     kind("bytes", "random bytes, or random bodies under good headers", damage::bytes),
+];
+
+/// The kinds whose files have disturbances of zeros, as stored files may, or what could be taken for such.
+pub static STORED: [Kind; 7] = [
+    kind("unfilled", "a valid run with disturbances of zeros put in", stored::unfilled),
+    long("unfilled-4097", "4,097 fields, half of them or more disturbances of zeros", stored::most_fields),
+    in_turn("unfilled-cut", "a disturbance of zeros cut after any of its bytes, alone or after fields", stored::cut),
+    in_turn("unfilled-byte", "a disturbance of zeros with any one byte changed, among fields", stored::one_byte),
+    kind("unfilled-mix", "disturbances of zeros, or nearly so, among fields of any tag and length", stored::mix),
+    kind("unfilled-hurt", "a run with disturbances of zeros, and bytes changed, lost or added", stored::damaged),
+    in_turn(
+        "unfilled-64k",
+        "hundreds of kilobytes, a disturbance of zeros across each multiple of 65,536",
+        stored::across,
+    ),
 ];
 
 const fn kind(name: &'static str, about: &'static str, make: fn(&mut Random) -> Vec<u8>) -> Kind {
@@ -104,5 +122,5 @@ impl Kind {
 }
 
 pub fn kinds() -> impl Iterator<Item = &'static Kind> {
-    VALID.iter().chain(&REFUSED).chain(&OTHERS)
+    VALID.iter().chain(&REFUSED).chain(&OTHERS).chain(&STORED)
 }

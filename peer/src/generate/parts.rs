@@ -1,4 +1,4 @@
-//! Random valid set bodies, steps and checks.
+//! Random valid set bodies, radii, steps and checks.
 
 use std::collections::BTreeSet;
 
@@ -99,6 +99,15 @@ fn nonzero(random: &mut Random, n: usize, limit: i128) -> Vec<i128> {
         numbers[random.below(n)] = random.between(1, limit);
     }
     numbers
+}
+
+/// The radii of a disturbance: up to the limit, and not all 0 even where that is 0.
+pub fn radii(random: &mut Random, n: usize, limit: i128) -> Vec<i128> {
+    let mut radii: Vec<i128> = (0..n).map(|_| random.between(0, limit)).collect();
+    if radii.iter().all(|r| *r == 0) {
+        radii[random.below(n)] = random.between(1, limit.max(1));
+    }
+    radii
 }
 
 /// A step to m coordinates whose result has a span of about `span` at most.

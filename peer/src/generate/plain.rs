@@ -1,5 +1,6 @@
 //! The plain sets, steps and runs that files aimed at something are made of.
 
+use super::parts::radii;
 use crate::bounds::Halfspace;
 use crate::field::Field;
 use crate::finish::Limits;
@@ -27,6 +28,11 @@ pub fn zero_ranged(m: usize, n: usize) -> Ranged {
     Ranged { half_widths: step.exactly(), step }
 }
 
+/// A disturbance for n coordinates whose radii are all 0.
+pub fn empty_disturbance(n: usize) -> Field {
+    Field::Disturbance(vec![0; n])
+}
+
 /// A start set and so many fields after it that change nothing.
 pub fn unchanged(fields: usize) -> Vec<u8> {
     let reduce = Field::Reduce(Limits { terms: MAX_TERMS, generators: MAX_GENERATORS });
@@ -37,23 +43,26 @@ pub fn unchanged(fields: usize) -> Vec<u8> {
 pub fn little_changed(random: &mut Random, fields: usize) -> Vec<u8> {
     let n = 1 + random.below(2);
     let mut bytes = Field::Start(plain_set(n, 1, 2, 1)).encode();
-    let mut same = zero_step(n, n);
-    (0..n).for_each(|i| same.matrix[i][i] = UNIT);
     for _ in 0..fields {
-        let field = match random.below(5) {
-            0 => Field::Reduce(Limits {
-                terms: random.below(1 + MAX_TERMS),
-                generators: random.below(1 + MAX_GENERATORS),
-            }),
-            1 => Field::Disturbance((0..n).map(|_| random.between(0, 3)).collect()),
-            2 => Field::Step(same.clone()),
-            3 => Field::Tied(plain_set(n, 0, 0, 0)),
-            _ => {
-                let normal = (0..n).map(|_| random.between(-2, 2)).collect();
-                Field::Check(vec![Halfspace { normal, bound: -random.between(0, 20_000) }])
-            }
-        };
-        bytes.extend(field.encode());
+        bytes.extend(little_change(random, n).encode());
     }
     bytes
+}
+
+/// Such a field, for a set in n coordinates.
+pub fn little_change(random: &mut Random, n: usize) -> Field {
+    match random.below(5) {
+        0 => Field::Reduce(Limits { terms: random.below(1 + MAX_TERMS), generators: random.below(1 + MAX_GENERATORS) }),
+        1 => Field::Disturbance(radii(random, n, 3)),
+        2 => {
+            let mut same = zero_step(n, n);
+            (0..n).for_each(|i| same.matrix[i][i] = UNIT);
+            Field::Step(same)
+        }
+        3 => Field::Tied(plain_set(n, 0, 0, 0)),
+        _ => {
+            let normal = (0..n).map(|_| random.between(-2, 2)).collect();
+            Field::Check(vec![Halfspace { normal, bound: -random.between(0, 20_000) }])
+        }
+    }
 }

@@ -1,6 +1,6 @@
 //! Valid runs: fields that the state reached so far accepts.
 
-use super::parts::{body, fill_span, ranged, region, step, Shape};
+use super::parts::{body, fill_span, radii, ranged, region, step, Shape};
 use crate::field::Field;
 use crate::finish::Limits;
 use crate::random::Random;
@@ -120,9 +120,14 @@ pub fn prefix(random: &mut Random, profile: &Profile, fields: usize) -> Builder 
         builder.add(&Field::Start(set));
     }
     for _ in 0..fields {
-        while !next_field(random, profile, &builder.state).is_some_and(|field| builder.add(&field)) {}
+        lengthen(random, profile, &mut builder);
     }
     builder
+}
+
+/// Writes one more field.
+pub fn lengthen(random: &mut Random, profile: &Profile, builder: &mut Builder) {
+    while !next_field(random, profile, &builder.state).is_some_and(|field| builder.add(&field)) {}
 }
 
 /// A field that the state probably accepts; now and then a check, which it certainly does.
@@ -153,7 +158,7 @@ pub fn next_field(random: &mut Random, profile: &Profile, state: &State) -> Opti
         }
         1 => {
             let limit = room.min(profile.span / 16);
-            Field::Disturbance((0..n).map(|_| random.between(0, limit)).collect())
+            Field::Disturbance(radii(random, n, limit))
         }
         2 => {
             let factors = MAX_FACTORS - set.identifiers.len();

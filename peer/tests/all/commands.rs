@@ -58,6 +58,22 @@ fn a_plan_that_a_run_refuses_is_encoded_with_a_note() {
     let (status, output, message) = plan(&["encode"], b"start 1\nradii 2\n\nreduce 41 0");
     assert_eq!((status, output.len()), (0, 20));
     assert_eq!(message, "note: line 4: a run refuses field 1 with 4\n");
+    for radii in ["", "radii 0 0.0\n"] {
+        let (status, output, message) = plan(&["encode"], format!("start 2\n\ndisturbance 2\n{radii}").as_bytes());
+        assert_eq!((status, &output[23..]), (0, &[3, 9, 0, 2, 0, 0, 0, 0, 0, 0, 0, 0][..]));
+        assert_eq!(message, "note: line 3: a run refuses field 1 with 14\n");
+        let (_, text, _) = plan(&["show"], &output);
+        assert!(String::from_utf8_lossy(&text).ends_with("disturbance 2  # field 1, byte 23\n  radii 0 0\n"));
+    }
+}
+
+#[test]
+fn rewrite() {
+    let (_, run, _) = plan(&["encode"], b"start 1\ndisturbance 1\nreduce 1 1\nraw ff 05 00 01");
+    let (start, rest) = (&run[..15], &run[23..]);
+    assert_eq!(peer(&["rewrite"], &run), (0, [start, rest].concat(), String::new()));
+    assert_eq!(peer(&["rewrite"], &[]), (0, Vec::new(), String::new()));
+    assert_eq!(peer(&["rewrite", "more"], &[]).0, 2);
 }
 
 #[test]

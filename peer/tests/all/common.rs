@@ -1,7 +1,7 @@
 //! What several test files use: run files from plans and from bytes, what a step rounds, and mirror images.
 
 use peer::bounds::Halfspace;
-use peer::field::Field;
+use peer::field::{whole, Field, HEADER};
 use peer::plan::encode;
 use peer::run::{Accepted, Outcome, Run};
 use peer::set::{Set, Term};
@@ -34,6 +34,22 @@ pub fn radius_lines(carried: i128, rounded: i128, folded: i128, given: i128) -> 
 /// The fields of a plan, all of which a run accepts.
 pub fn accepted(plan: &str) -> Vec<Accepted> {
     Run::new(&run_file(plan)).map(|item| item.expect("accepted")).collect()
+}
+
+/// The bytes of an empty disturbance for n coordinates.
+pub fn empty(n: usize) -> Vec<u8> {
+    [vec![3, 1 + 4 * n as u8, 0, n as u8], vec![0; 4 * n]].concat()
+}
+
+/// The whole fields of a file, and what is left of it.
+pub fn whole_fields(mut rest: &[u8]) -> (Vec<&[u8]>, &[u8]) {
+    let mut fields = Vec::new();
+    while let Some((_, body)) = whole(rest) {
+        let (field, after) = rest.split_at(HEADER + body.len());
+        fields.push(field);
+        rest = after;
+    }
+    (fields, rest)
 }
 
 /// Every number that a step of this set rounds, by coordinate, in 1/16,777,216: of the centre, of terms and generators,

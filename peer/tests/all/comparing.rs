@@ -8,9 +8,9 @@ use peer::generate::{kinds, Kind};
 const PEER: &str = env!("CARGO_BIN_EXE_peer");
 
 /// Exit status, and what the comparison with a program in the shell's words says; `"$0"` is the second implementation.
-fn compare(script: &str, options: &[&str]) -> (i32, String) {
+fn compare(command: &str, script: &str, options: &[&str]) -> (i32, String) {
     let output = Command::new(PEER)
-        .args(["compare", "sh", "-c", script, PEER])
+        .args([command, "sh", "-c", script, PEER])
         .args(options)
         .output()
         .expect("the comparison runs");
@@ -18,9 +18,13 @@ fn compare(script: &str, options: &[&str]) -> (i32, String) {
     (output.status.code().expect("a status"), String::from_utf8_lossy(&text).into_owned())
 }
 
-/// The difference that a comparison has to notice: its message, and the kind and seed of the file that it left.
+/// The difference that a comparison of `motion` has to notice: its message, and the kind and seed of the file that it left.
 fn difference(script: &str, first_seed: u64) -> (String, &'static Kind, u64) {
-    let (status, text) = compare(script, &["--files", "40", "--seed", &first_seed.to_string()]);
+    difference_of("compare", script, first_seed)
+}
+
+fn difference_of(command: &str, script: &str, first_seed: u64) -> (String, &'static Kind, u64) {
+    let (status, text) = compare(command, script, &["--files", "60", "--seed", &first_seed.to_string()]);
     assert_eq!(status, 1, "{text}");
     let words: Vec<&str> = text.split([' ', ',', ':', '\n']).filter(|word| !word.is_empty()).collect();
     let after = |label: &str| words[1 + words.iter().position(|word| *word == label).expect(label)];
@@ -34,10 +38,12 @@ fn difference(script: &str, first_seed: u64) -> (String, &'static Kind, u64) {
 
 #[test]
 fn the_second_implementation_agrees_with_itself() {
-    let (status, text) = compare("exec \"$0\" motion", &["--files", "44", "--seed", "500"]);
-    let whole = "compared: 44 files of 41 kinds, seeds up to 501, 5 of them also in pieces; ";
-    assert!(status == 0 && text.starts_with(whole) && text.ends_with("no difference\n"), "{text}");
-    assert!(text.contains("4 ways of not reading it") && text.lines().count() == 1, "{text}");
+    for (command, script) in [("compare", "exec \"$0\" motion"), ("compare-rewrite", "exec \"$0\" rewrite")] {
+        let (status, text) = compare(command, script, &["--files", "54", "--seed", "500"]);
+        let whole = "compared: 54 files of 50 kinds, seeds up to 501, 6 of them also in pieces; ";
+        assert!(status == 0 && text.starts_with(whole) && text.ends_with("no difference\n"), "{text}");
+        assert!(text.contains("4 ways of not reading it") && text.lines().count() == 1, "{text}");
+    }
 }
 
 #[test]
@@ -53,6 +59,23 @@ fn a_changed_byte_is_noticed() {
 fn a_wrong_total_is_noticed() {
     let (text, ..) = difference("\"$0\" motion | sed 's/^folded \\(.*\\) 0$/folded \\1 1/'", 7015);
     assert!(text.contains(" 0\\n\", and there is \"folded ") && text.contains(" 1\\n\""), "{text}");
+}
+
+#[test]
+fn a_program_that_rewrites_nothing_or_loses_the_last_byte_is_noticed() {
+    let (text, kind, _) = difference_of("compare-rewrite", "exec cat", 7070);
+    assert!(kind.name == "refusal-14" && text.contains("from a file: byte "), "{text}");
+    let (text, ..) = difference_of("compare-rewrite", "\"$0\" rewrite | head -c -1", 7080);
+    assert!(text.contains(", and there is nothing\n"), "{text}");
+    let (text, ..) = difference_of("compare-rewrite", "\"$0\" rewrite; echo", 7090);
+    assert!(text.contains(" should be nothing, and there is 10\n"), "{text}");
+}
+
+#[test]
+fn a_program_that_rewrites_each_piece_alone_is_noticed() {
+    let script = "(dd bs=64k count=1 | \"$0\" rewrite; \"$0\" rewrite) 2>/dev/null";
+    let (text, ..) = difference_of("compare-rewrite", script, 7100);
+    assert!(text.contains(" of the output should be "), "{text}");
 }
 
 #[test]
@@ -83,10 +106,12 @@ fn an_exit_status_other_than_0_is_noticed() {
 
 #[test]
 fn what_is_no_program_or_no_option_gives_status_2() {
-    let status =
-        |words: &[&str]| Command::new(PEER).arg("compare").args(words).output().expect("it runs").status.code();
-    assert_eq!(status(&["/nowhere/motion"]), Some(2));
-    assert_eq!(status(&[]), Some(2));
-    assert_eq!(status(&["true", "--files"]), Some(2));
-    assert_eq!(status(&["true", "--fields", "5"]), Some(2));
+    for command in ["compare", "compare-rewrite"] {
+        let status =
+            |words: &[&str]| Command::new(PEER).arg(command).args(words).output().expect("it runs").status.code();
+        assert_eq!(status(&["/nowhere/motion"]), Some(2));
+        assert_eq!(status(&[]), Some(2));
+        assert_eq!(status(&["true", "--files"]), Some(2));
+        assert_eq!(status(&["true", "--fields", "5"]), Some(2));
+    }
 }

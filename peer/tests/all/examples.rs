@@ -5,7 +5,8 @@ use std::path::{Path, PathBuf};
 use crate::common::{assert_mirrored, run_file, totals_line, unrounded};
 use peer::field::Field;
 use peer::follow::follow;
-use peer::run::{Accepted, Outcome, Run};
+use peer::rewrite::rewrite;
+use peer::run::{Accepted, Cause, Outcome, Refusal, Run};
 use peer::set::Term;
 use peer::step::{Ranged, ROUND};
 use peer::text::motion;
@@ -31,7 +32,7 @@ fn names() -> Vec<String> {
 #[test]
 fn run_files_are_their_plans_and_print_what_is_expected() {
     let names = names();
-    assert_eq!(names.len(), 10, "{names:?}");
+    assert_eq!(names.len(), 11, "{names:?}");
     for name in names {
         let run = bytes(&format!("{name}.run"));
         assert!(run_file(&text(&format!("{name}.plan"))) == run, "{name}");
@@ -39,16 +40,43 @@ fn run_files_are_their_plans_and_print_what_is_expected() {
     }
 }
 
+/// What rewriting makes of an example's run file.
+fn rewritten(name: &str) -> Vec<u8> {
+    rewrite(&bytes(&format!("{name}.run")))
+}
+
 #[test]
 fn no_motion_escapes() {
     for name in names() {
-        let report = follow(&bytes(&format!("{name}.run")), 8, 7);
+        let report = follow(&rewritten(&name), 8, 7);
         assert!(
             report.text.starts_with("no escape among 8 motions, 8 of them followed to the last field"),
             "{name}\n{}",
             report.text
         );
     }
+}
+
+#[test]
+fn rewriting_changes_unfilled_alone() {
+    for name in names() {
+        let changed = if name == "unfilled" { "rewritten" } else { "run" };
+        assert!(rewritten(&name) == bytes(&format!("{name}.{changed}")), "{name}");
+    }
+}
+
+/// Refused at the first of its empty disturbances; without them as its plan says.
+#[test]
+fn unfilled_is_accepted_without_its_empty_disturbances() {
+    let run = bytes("unfilled.run");
+    let items: Vec<_> = Run::new(&run).collect();
+    assert!(matches!(items.last(), Some(Err(Refusal { field: 4, cause: Cause::EmptyDisturbance, place: 176 }))));
+    assert_eq!(run.len() - rewritten("unfilled").len(), 3 * 12);
+    assert_eq!(tally(&rewritten("unfilled")), (3, 2, vec![true; 2]));
+    let after: Vec<_> = Run::new(&rewritten("unfilled")).map(|item| item.expect("accepted")).collect();
+    assert!(after.len() == 10 && after[9].field.tag() == 7);
+    let filled = text("unfilled.plan").replace("radii 0.0 0.0", "radii 0.0 1") + "radii 1 0";
+    assert!(Run::new(&run_file(&filled)).all(|item| item.is_ok()), "with radii it is accepted too");
 }
 
 /// How many steps, plain or ranged, and disturbances, and the verdicts in order.

@@ -333,7 +333,7 @@ fn odd_ranges_reach_the_limit_and_zero() {
 /// What the gain, or a hull's rounding, leaves of the span: one unit, nothing, or one too little.
 #[test]
 fn limits_have_ranged_steps_and_hulls_on_both_sides_of_the_span() {
-    for sign in [0, 75] {
+    for sign in [0, 78] {
         // The span of the last accepted set: where the field is refused, of the one before it.
         for (first, before) in [(72, UNIT), (54, SPAN_LIMIT)] {
             let ends = [first, first + 1, first + 2].map(|seed| {
@@ -355,7 +355,7 @@ fn each_refusal_is_hit_by_its_kind() {
             assert_eq!(format!("refusal-{number}"), kind.name, "seed {seed}");
             at_start |= accepted.is_empty();
         }
-        let never_first = ["refusal-5", "refusal-9", "refusal-10", "refusal-12"].contains(&kind.name);
+        let never_first = ["refusal-5", "refusal-9", "refusal-10", "refusal-12", "refusal-14"].contains(&kind.name);
         assert_eq!(at_start, !never_first, "{}", kind.name);
     }
 }
@@ -381,6 +381,7 @@ fn refusals_come_in_fields_of_every_kind_that_can_have_them() {
     assert_eq!(refused_tags("refusal-8"), [1, 4, 5, 8].into());
     assert_eq!(refused_tags("refusal-9"), [4, 5, 8].into());
     assert_eq!(refused_tags("refusal-10"), [2, 3, 4, 5, 8, 9].into());
+    assert_eq!(refused_tags("refusal-14"), [3].into());
 }
 
 /// How files of a kind end: with 0 for the end of input between fields, else the refusal's number.
@@ -391,8 +392,9 @@ fn endings(name: &str, seeds: u64) -> BTreeSet<u8> {
 
 #[test]
 fn other_kinds_end_in_every_way_they_can() {
-    assert!(endings("order", 400).is_superset(&[1, 2, 3, 4, 5, 6, 7, 8, 9, 12].into()));
-    assert_eq!(endings("limits", 150), [0, 6, 8, 10].into());
+    assert!(endings("order", 400).is_superset(&[1, 2, 3, 4, 5, 6, 7, 8, 9, 12, 14].into()));
+    assert_eq!(endings("zeros", 200), [0, 1, 2, 3, 4, 5, 6, 10, 12, 14].into());
+    assert_eq!(endings("limits", 156), [0, 6, 8, 10, 14].into());
     assert_eq!(endings("counts", 66), [0, 4, 5, 7, 9, 12].into());
     assert_eq!(endings("odd-ranges", 200), [0, 3, 4, 5, 6, 10].into());
     assert!(endings("lengths", 200).is_superset(&[1, 2, 3, 4].into()));

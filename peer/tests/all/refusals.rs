@@ -116,9 +116,9 @@ fn dimensions() {
     assert_eq!(after_start("hull 2"), "end 1");
     assert_eq!(after_start("check 1\nhalfspace 1 : 0"), refused(5));
     assert_eq!(after_start("step 2 from 1"), refused(5));
-    assert_eq!(after_start("step 1 from 2\ndisturbance 1"), "end 2", "a step may change the dimension");
+    assert_eq!(after_start("step 1 from 2\ndisturbance 1\nradii 1"), "end 2", "a step may change the dimension");
     assert_eq!(after_start("ranged 2 from 1"), refused(5));
-    assert_eq!(after_start("ranged 1 from 2\ndisturbance 1"), "end 2");
+    assert_eq!(after_start("ranged 1 from 2\ndisturbance 1\nradii 1"), "end 2");
 }
 
 #[test]
@@ -147,7 +147,8 @@ fn ranges() {
         ("ranged 1 from 2", "ranged 1 from 2\nA -2147483648 0\nA+- 2147483647 0"),
         ("ranged 1 from 2", "ranged 1 from 2\nA 32769 0\nA+- -1 0"),
         ("ranged 1 from 2", "ranged 1 from 2\nQ+- 1 : -2147483648 0 / 0 0"),
-        ("disturbance 2\nradii 0 0", "disturbance 2\nradii 0 -1"),
+        ("disturbance 2\nradii 0 1", "disturbance 2\nradii 0 -1"),
+        ("disturbance 2\nradii 1 0", "disturbance 2\nradii -2147483648 0"),
         ("disturbance 2\nradii 1048571 1048571", "disturbance 2\nradii 1048577 0"),
         ("check 2\nhalfspace 32768 -32768 : 0", "check 2\nhalfspace 0 32769 : 0"),
         ("check 2\nhalfspace 0 -32768 : 0", "check 2\nhalfspace 0 -32769 : 0"),
@@ -213,6 +214,28 @@ fn spans() {
 }
 
 #[test]
+fn empty_disturbances() {
+    assert_eq!(after_start("disturbance 2\nradii 0 0"), refused(14));
+    assert_eq!(after_start("disturbance 2"), refused(14), "left out in the plan");
+    assert_eq!(after_start("disturbance 2\nradii 1 0\ndisturbance 2"), format!("2 refused 14 {}", NEXT + 12));
+    for n in 1..=6 {
+        let start = format!("start {n}\n");
+        let place = run_file(&start).len();
+        let line = |radii: &[&str]| last_line(&run_file(&format!("{start}disturbance {n}\nradii {}", radii.join(" "))));
+        assert_eq!(line(&vec!["0"; n]), format!("1 refused 14 {place}"));
+        for i in 0..n {
+            let with = |radius| [vec!["0"; i], vec![radius], vec!["0"; n - 1 - i]].concat();
+            for radius in ["1", "256", "65536", "1048576"] {
+                assert_eq!(line(&with(radius)), "end 1", "{radius} at {i} of {n}");
+            }
+            for radius in ["-1", "1048577", "16777216", "-2147483648"] {
+                assert_eq!(line(&with(radius)), format!("1 refused 6 {place}"), "{radius} at {i} of {n}");
+            }
+        }
+    }
+}
+
+#[test]
 fn fields_after_the_last_that_may_follow() {
     let full = run_file("start 1\nrepeat 4096 {\nreduce 40 24\n}");
     assert_eq!(last_line(&full), "end 4096");
@@ -255,6 +278,43 @@ fn order_of_refusals() {
         assert_eq!(field(1, 20, 1, 0, room, 0, 0), refused(7), "a zero term");
         assert_eq!(last_line(&[run_file(eight), vec![10]].concat()), refused(2));
     }
+}
+
+/// The same for a disturbance of zeros; what is too wide isn't empty, so that 14 and 10 are never both there.
+#[test]
+fn order_of_a_disturbances_refusals() {
+    let start = "start 2\ncentre 1048576 0\n";
+    let place = run_file(start).len();
+    let refused = |number: u8| format!("1 refused {number} {place}");
+    let field = |tag: u8, n: u8, radii: &[i32], cut: usize, more: usize| {
+        let mut body = vec![n];
+        body.extend(radii.iter().flat_map(|radius| radius.to_le_bytes()));
+        body.extend(vec![0; more]);
+        last_line_with(start, tag, &body, cut)
+    };
+    assert_eq!(field(10, 7, &[-1, 0], 1, 1), refused(2));
+    assert_eq!(field(3, 7, &[-1, 0], 1, 1), refused(1));
+    assert_eq!(field(3, 2, &[0, 0], 1, 0), refused(1));
+    assert_eq!(last_line(&[run_file(start), vec![3, 0, 0]].concat()), refused(3));
+    assert_eq!(field(3, 7, &[-1, 0], 0, 1), refused(4));
+    assert_eq!(field(3, 0, &[], 0, 0), refused(4));
+    assert_eq!(field(3, 7, &[0; 7], 0, 0), refused(4));
+    assert_eq!(field(3, 1, &[-1], 0, 1), refused(3));
+    assert_eq!(field(3, 2, &[0, 0], 0, 1), refused(3));
+    assert_eq!(field(3, 2, &[0], 0, 0), refused(3));
+    assert_eq!(field(3, 1, &[-1], 0, 0), refused(5));
+    assert_eq!(field(3, 1, &[0], 0, 0), refused(5));
+    assert_eq!(field(3, 6, &[0; 6], 0, 0), refused(5));
+    assert_eq!(field(3, 2, &[-1, 0], 0, 0), refused(6));
+    assert_eq!(field(3, 2, &[0, 1_048_577], 0, 0), refused(6));
+    assert_eq!(field(3, 2, &[0, i32::MIN], 0, 0), refused(6));
+    assert_eq!(field(3, 2, &[0, 0], 0, 0), refused(14), "in a set as wide as can be");
+    assert_eq!(field(3, 2, &[1, 0], 0, 0), refused(10));
+    assert_eq!(field(3, 2, &[0, 1], 0, 0), "end 1");
+    assert_eq!(last_line(&run_file("disturbance 1")), "0 refused 2 0", "as the first field");
+    let full = run_file("start 1\nrepeat 4096 {\nreduce 40 24\n}");
+    let line = last_line(&[full.clone(), run_file("disturbance 1")].concat());
+    assert_eq!(line, format!("4097 refused 12 {}", full.len()));
 }
 
 /// The same for a ranged step, whose half-width of -1 or of 32,769 is 6 and whose image is too wide.
