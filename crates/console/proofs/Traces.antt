@@ -1,11 +1,17 @@
 -- One read or one write more.
 use mathlib.Core.Path.{_≡_, refl, sym, ap, _∙_}
+use mathlib.Core.Bool.{Bool, true, not}
 use mathlib.Core.List.{List, [], _∷_, _++_, append-assoc, append-nil}
+use Prim.Native.Nat.{ℕ, _<_}
+use borrow.Author.Tests.{eqb-true, not-true}
+use lib.Dec.{eqb}
+use lib.ListN.{length, take}
 use Rattle.console.specs.declared.Input.{Input}
 use Rattle.console.specs.declared.Output.{Output}
 use Rattle.console.specs.Trace.{took, wrote}
-use Rattle.console.specs.History.{Read, tookAll, bytesOf, Write, wroteAll, handedOver}
+use Rattle.console.specs.History.{Read, tookAll, bytesOf, Write, wroteAll, handedOver, EndRead, WriteFailed}
 
+-- ---- a read
 pub took-more : (i : Input) (rs : List Read) (r : Read) → tookAll i (rs ++ (r ∷ [])) ≡ took (tookAll i rs) (r .asked) (r .bytes)
 unfolding tookAll
 took-more i [] r = refl
@@ -16,6 +22,17 @@ unfolding bytesOf
 bytes-more [] r = append-nil (r .bytes)
 bytes-more (q ∷ rs) r = ap (q .bytes ++_) (bytes-more rs r) ∙ sym (append-assoc (q .bytes) (bytesOf rs) (r .bytes))
 
+-- one that brought no byte into a buffer that has room
+pub met-end : (rs : List Read) (buffer : List ℕ) (count : ℕ) → 0 < length buffer → eqb count 0 ≡ true
+    → EndRead (rs ++ (record { asked = length buffer; bytes = take count buffer } ∷ []))
+met-end rs buffer count some e = record {
+  before = rs;
+  asked = length buffer;
+  some = some;
+  last = ap (λ n. rs ++ (record { asked = length buffer; bytes = take n buffer } ∷ [])) (eqb-true count 0 e);
+}
+
+-- ---- a write
 pub wrote-more : (o : Output) (ws : List Write) (w : Write) → wroteAll o (ws ++ (w ∷ [])) ≡ wrote (wroteAll o ws) (w .bytes) (w .whole)
 unfolding wroteAll
 wrote-more o [] w = refl
@@ -25,3 +42,12 @@ pub handed-more : (ws : List Write) (w : Write) → handedOver (ws ++ (w ∷ [])
 unfolding handedOver
 handed-more [] w = append-nil (w .bytes)
 handed-more (v ∷ ws) w = ap (v .bytes ++_) (handed-more ws w) ∙ sym (append-assoc (v .bytes) (handedOver ws) (w .bytes))
+
+-- one that didn't go through
+pub not-whole : (ws : List Write) (bytes : List ℕ) (whole : Bool) → not whole ≡ true
+    → WriteFailed (ws ++ (record { bytes = bytes; whole = whole } ∷ []))
+not-whole ws bytes whole e = record {
+  before = ws;
+  bytes = bytes;
+  last = ap (λ b. ws ++ (record { bytes = bytes; whole = b } ∷ [])) (not-true whole e);
+}

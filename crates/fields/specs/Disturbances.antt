@@ -32,7 +32,7 @@ use Rattle.answers.specs.Finishing.{part, part-length}
 use Rattle.summing.specs.Disturb.{Disturbable}
 use Rattle.bodies.specs.Fields.{radiiLength}
 use Rattle.fields.specs.Refusal.{bodyRefusal}
-use Rattle.fields.specs.Layout.{layout, LaidOut, laid-out, three-parts}
+use Rattle.fields.specs.Layout.{layout, LaidOut, laid-out, in-parts}
 
 module _ (b : List ℕ) where
   -- the body is as long as its count says: 3, 4, 3
@@ -59,8 +59,7 @@ pub disturbance-order : (b : List ℕ) (s : PolyZonotope)
 unfolding meaning view firstOf
 disturbance-order b s =
     let numbers = ofGiven b (s .dimension) in
-    three-parts (radiiLayout b) numbers
-    ((7 if false) ∷ (8 if false) ∷ (9 if false) ∷ (10 if tooWide (disturb (givenRadii b) (view s))) ∷ [])
+    in-parts (radiiLayout b) numbers ((10 if tooWide (disturb (givenRadii b) (view s))) ∷ [])
     ∙ orElse-assoc (firstOf (radiiLayout b)) (firstOf numbers) _
     ∙ ap (λ o. orElse o (ofResult (disturb (givenRadii b) (view s)))) (sym (first-append (radiiLayout b) numbers))
 

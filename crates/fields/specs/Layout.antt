@@ -51,21 +51,7 @@ module _ (counts : ℕ) (wrong : Bool) (bytes long : ℕ) where
       unfolding firstOf
       nothing-wrong l = rw (le-ltb long counts h, w, eq-eqb long bytes l)
 
--- ---- a field whose body is no set: its layout, then its dimension and the range of its numbers, then its result
--- 5 and 6
-abbrev pub ofNumbers : Bool → Bool → List Cause
-ofNumbers dimension range = (5 if dimension) ∷ (6 if range) ∷ []
-
--- what is asked of a disturbance or of a set in the body, and the result
-abbrev pub ofRest : Bool → List Cause
-ofRest wide = (14 if false) ∷ (7 if false) ∷ (8 if false) ∷ (9 if false) ∷ (10 if wide) ∷ []
-
--- causes in three parts
-pub three-parts : (k l m : List Cause) → firstOf (k ++ (l ++ m)) ≡ orElse (firstOf k) (orElse (firstOf l) (firstOf m))
-three-parts k l m = first-append k (l ++ m) ∙ ap (orElse (firstOf k)) (first-append l m)
-
-pub in-parts : (k : List Cause) (dimension range wide : Bool)
-    → firstOf (k ++ (ofNumbers dimension range ++ ofRest wide))
-    ≡ orElse (firstOf k) (orElse (firstOf (ofNumbers dimension range)) (firstOf ((10 if wide) ∷ [])))
-unfolding firstOf
-in-parts k dimension range wide = three-parts k (ofNumbers dimension range) (ofRest wide)
+-- ---- a field's causes in three parts; a cause that its kind doesn't have needs no place in them, since `firstOf` passes it by
+pub in-parts : (layout numbers result : List Cause)
+    → firstOf (layout ++ (numbers ++ result)) ≡ orElse (firstOf layout) (orElse (firstOf numbers) (firstOf result))
+in-parts layout numbers result = first-append layout (numbers ++ result) ∙ ap (orElse (firstOf layout)) (first-append numbers result)

@@ -1,8 +1,7 @@
 -- Reductions: their causes in parts.
 use mathlib.Core.Path.{_≡_}
-use mathlib.Core.List.{List}
+use mathlib.Core.List.{List, [], _∷_}
 use Prim.Native.Nat.{ℕ, _≤_}
-use mathlib.Core.Bool.{false}
 use borrow.Author.Tests.{ltb-false}
 use lib.Dec.{ltb}
 use lib.ListN.{length}
@@ -13,7 +12,7 @@ use Rattle.model.specs.Valid.{tooWide}
 use Rattle.model.specs.Operations.{reduce}
 use Rattle.model.specs.Body.{termLimit, generatorLimit}
 use Rattle.model.specs.Field.{reduction, meaning}
-use Rattle.model.specs.Run.{Cause, firstOf}
+use Rattle.model.specs.Run.{Cause, _if_, firstOf}
 use Rattle.zonotope.specs.declared.PolyZonotope.{PolyZonotope}
 use Rattle.zonotope.specs.Record.{view}
 use Rattle.zonotope.specs.Answer.{orElse}
@@ -37,7 +36,7 @@ module _ (b : List ℕ) where
 
   pub reduction-order : (s : Zonotope) → bodyRefusal reduction b 0 s ≡ orElse (firstOf limitsLayout) (ofResult (reduced s))
   unfolding meaning firstOf
-  reduction-order s = in-parts limitsLayout false false (tooWide (reduced s))
+  reduction-order s = in-parts limitsLayout [] ((10 if tooWide (reduced s)) ∷ [])
 
 -- limits that are read from a body that is laid out
 module _ (b : List ℕ) {h q : ℕ} where

@@ -35,7 +35,7 @@ use Rattle.stepping.specs.Arguments.{ranged-in}
 use Rattle.stepping.specs.Work.{workNumbers, workExponents, worked, result-worked}
 use Rattle.bodies.specs.Fields.{stepCountsOut}
 use Rattle.fields.specs.Refusal.{bodyRefusal, resultOf}
-use Rattle.fields.specs.Layout.{layout, LaidOut, ofNumbers, in-parts}
+use Rattle.fields.specs.Layout.{layout, LaidOut, in-parts}
 
 -- ---- definitions
 -- what a step leaves in a work slice: what it held where the step isn't worked out, and in any case what it held from place n on
@@ -58,6 +58,10 @@ layoutOf b bytes = layout 2 (stepCountsOut b) bytes (length b)
 
 abbrev pub BodyLaid : List ℕ → ℕ → Type 0
 BodyLaid b bytes = LaidOut 2 (stepCountsOut b) bytes (length b)
+
+-- its dimension and the range of its numbers: 5, 6
+abbrev ofNumbers : Bool → Bool → List Cause
+ofNumbers dimension range = (5 if dimension) ∷ (6 if range) ∷ []
 
 -- the number that refuses a step by its own causes or by its result
 abbrev pub ofStepped : List Cause → Zonotope → Option ℕ
@@ -119,13 +123,12 @@ module _ (b : List ℕ) (bytes : ℕ) (range : Bool) (s : PolyZonotope) (result 
       (r ≡ answered fieldRefusal s result)
       × (Worked (pos 0) fieldRefusal workNumbers w₀ w × Worked 0 fieldRefusal workExponents e₀ e)
 
-  -- 5 and 6
   abbrev numbers : List Cause
   numbers = ofNumbers (differs (stepColumns b) (s .dimension)) range
 
   field-order : fieldRefusal ≡ orElse (firstOf (layoutOf b bytes)) (ofStepped numbers result)
-  unfolding view
-  field-order = in-parts (layoutOf b bytes) (differs (stepColumns b) (s .dimension)) range (tooWide result)
+  unfolding view firstOf
+  field-order = in-parts (layoutOf b bytes) numbers ((10 if tooWide result) ∷ [])
 
   layout-refused : {o : Examined} → o ≡ examined (firstOf (layoutOf b bytes)) → isRefused o ≡ true → (w : List ℤ) (e : List ℕ)
       → FieldStepped (record { outcome = o; set = s }) w w e e

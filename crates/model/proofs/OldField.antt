@@ -29,7 +29,7 @@ use Rattle.model.proofs.ByKind.{starts}
 use Rattle.model.proofs.Rewritten.{Emptied}
 use Rattle.model.proofs.Sound.{Sound}
 
--- ---- a disturbance without a radius leaves the set and the totals
+-- ---- a disturbance whose radii are all zero leaves the set and the totals
 zeros-added : (l r : List ℕ) → length r ≡ length l → allZero r ≡ true → plusℕ l r ≡ l
 unfolding longer all
 zeros-added [] [] e z = refl

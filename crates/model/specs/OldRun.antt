@@ -1,5 +1,5 @@
--- The run as it was before request A.5, kept for what is claimed of rewritten files and for nothing else: a disturbance without a radius
--- was accepted. The claims are proved in proofs/Kept.antt and proofs/Rewritten.antt.
+-- The run as it was before request A.5, when a disturbance whose radii are all zero was accepted, kept for what is claimed of rewritten
+-- files and for nothing else. The claims are proved in proofs/Kept.antt and proofs/Rewritten.antt.
 use mathlib.Core.Path.{_≡_}
 use mathlib.Core.List.{List, [], _∷_}
 use mathlib.Core.Option.{Option, none, some}

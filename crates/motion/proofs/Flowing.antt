@@ -4,7 +4,7 @@ use mathlib.Core.Bool.{Bool, true, false, not, cond, _||_, true≢false}
 use mathlib.Core.List.{List, [], _∷_, _++_, append-assoc, append-nil}
 use Prim.Native.Nat.{ℕ, _+_, _-_, _≤_, _<_}
 use native.Mathlib.Omega.{arith}
-use borrow.Author.Tests.{eqb-true, eqb-false, not-true}
+use borrow.Author.Tests.{eqb-false, not-true}
 use Rattle.whole.specs.Tests.{or-left, or-right}
 use lib.Dec.{eqb}
 use lib.ListN.{length, take, drop, length-take, length-drop, length-append}
@@ -18,8 +18,8 @@ use Rattle.console.specs.declared.Input.{Input}
 use Rattle.console.specs.declared.Filled.{Filled}
 use Rattle.console.specs.declared.Output.{Output}
 use Rattle.console.specs.Trace.{noInput, noOutput, took, wrote, FilledFrom}
-use Rattle.console.specs.History.{Read, tookAll, bytesOf, Write, wroteAll, handedOver, EndRead, WriteFailed}
-use Rattle.console.proofs.Traces.{took-more, bytes-more, wrote-more, handed-more}
+use Rattle.console.specs.History.{Read, tookAll, bytesOf, Write, wroteAll, handedOver}
+use Rattle.console.proofs.Traces.{took-more, bytes-more, met-end, wrote-more, handed-more, not-whole}
 use Rattle.feeding.specs.declared.Progress.{Progress}
 use Rattle.feeding.specs.declared.Fed.{Fed}
 use Rattle.feeding.specs.Fed as Feeding
@@ -102,14 +102,6 @@ module _ (f : Flow) (buffer B P : List ℕ) (a : Along f buffer) (on : f .ended 
       ap (λ k. take (k + r .count) (H ++ (B ++ P))) (sym n) ∙ take-append-add H (B ++ P) (r .count)
       ∙ ap (H ++_) (take-append-le (r .count) B P (filled .within))
 
-  end-met : eqb (r .count) 0 ≡ true → EndRead (a .reads ++ (this ∷ []))
-  end-met e = record {
-    before = a .reads;
-    asked = length B;
-    some = some;
-    last = ap (λ (l : List ℕ). a .reads ++ (record { asked = length B; bytes = l } ∷ [])) (ap (λ n. take n B) (eqb-true (r .count) 0 e));
-  }
-
   read-prints : (more : List ℕ) → (eqb (r .count) 0 ≡ true → more ≡ [])
       → printed (bytesOf (a .reads ++ (this ∷ [])) ++ more)
       ≡ handedOver (a .writes) ++ remaining (f .progress) (heldBytes next after ++ more)
@@ -136,7 +128,7 @@ module _ (f : Flow) (buffer B P : List ℕ) (a : Along f buffer) (on : f .ended 
       writes = a .writes;
       input = filled .next ∙ ap (λ i. took i (length B) bytes) (a .input) ∙ sym (took-more noInput (a .reads) this);
       output = a .output;
-      end-read = end-met;
+      end-read = met-end (a .reads) B (r .count) some;
       write-failed = a .write-failed;
       prints = read-prints;
     };
@@ -178,13 +170,6 @@ module _ (f g : Flow) (buffer : List ℕ) (a : Along g buffer) (room : ℕ) {out
     abbrev now-written : Write
     now-written = record { bytes = t .text; whole = whole }
 
-    failed-write : not whole ≡ true → WriteFailed (a .writes ++ (now-written ∷ []))
-    failed-write e = record {
-      before = a .writes;
-      bytes = t .text;
-      last = ap (λ b. a .writes ++ (record { bytes = t .text; whole = b } ∷ [])) (not-true whole e);
-    }
-
     turn-prints : (more : List ℕ) → (g .ended ≡ true → more ≡ [])
         → printed (bytesOf (a .reads) ++ more)
         ≡ handedOver (a .writes ++ (now-written ∷ [])) ++ remaining (r .progress) (heldBytes then after ++ more)
@@ -205,7 +190,7 @@ module _ (f g : Flow) (buffer : List ℕ) (a : Along g buffer) (room : ℕ) {out
       input = a .input;
       output = sent ∙ ap₂ (λ x y. wrote x y whole) (a .output) text-written ∙ sym (wrote-more noOutput (a .writes) now-written);
       end-read = a .end-read;
-      write-failed = failed-write;
+      write-failed = not-whole (a .writes) (t .text) whole;
       prints = turn-prints;
     }
 

@@ -4,7 +4,7 @@ use mathlib.Core.Bool.{Bool, true, false, not, cond, _||_, true≢false}
 use mathlib.Core.List.{List, [], _∷_, _++_, append-assoc, append-nil}
 use Prim.Native.Nat.{ℕ, _+_, _-_, _<_}
 use native.Mathlib.Omega.{arith}
-use borrow.Author.Tests.{eqb-true, eqb-false, eq-eqb, ne-eqb, not-true}
+use borrow.Author.Tests.{eqb-true, eqb-false, eq-eqb, ne-eqb}
 use lib.Dec.{eqb}
 use lib.ListN.{length, take, length-append}
 use lib.Seq.{length-take-le}
@@ -15,8 +15,8 @@ use Rattle.console.specs.declared.Input.{Input}
 use Rattle.console.specs.declared.Filled.{Filled}
 use Rattle.console.specs.declared.Output.{Output}
 use Rattle.console.specs.Trace.{noInput, noOutput, took, wrote, FilledFrom}
-use Rattle.console.specs.History.{Read, tookAll, bytesOf, Write, wroteAll, handedOver, EndRead, WriteFailed}
-use Rattle.console.proofs.Traces.{took-more, bytes-more, wrote-more, handed-more}
+use Rattle.console.specs.History.{Read, tookAll, bytesOf, Write, wroteAll, handedOver}
+use Rattle.console.proofs.Traces.{took-more, bytes-more, met-end, wrote-more, handed-more, not-whole}
 use Rattle.rewriting.specs.declared.Held.{Held}
 use Rattle.rewriting.specs.declared.Given.{Given}
 use Rattle.rewriting.specs.Given as Rewriting
@@ -133,21 +133,6 @@ module _ (f : Flow) (B : List ℕ) (a : Along f) (on : f .ended ≡ false) (r : 
   came-count : length came ≡ r .count
   came-count = length-take-le (r .count) B (filled .within)
 
-  end-met : eqb (r .count) 0 ≡ true → EndRead (a .reads ++ (this ∷ []))
-  end-met e = record {
-    before = a .reads;
-    asked = length B;
-    some = some;
-    last = ap (λ (l : List ℕ). a .reads ++ (record { asked = length B; bytes = l } ∷ [])) (ap (λ n. take n B) (eqb-true (r .count) 0 e));
-  }
-
-  failed-write : not whole ≡ true → WriteFailed (a .writes ++ (now-written ∷ []))
-  failed-write e = record {
-    before = a .writes;
-    bytes = text;
-    last = ap (λ b. a .writes ++ (record { bytes = text; whole = b } ∷ [])) (not-true whole e);
-  }
-
   turn-rewrites : (more : List ℕ) → (eqb (r .count) 0 ≡ true → more ≡ [])
       → rewritten (bytesOf (a .reads ++ (this ∷ [])) ++ more) ≡ handedOver (a .writes ++ (now-written ∷ [])) ++ stillLeft next more
   turn-rewrites more last =
@@ -170,8 +155,8 @@ module _ (f : Flow) (B : List ℕ) (a : Along f) (on : f .ended ≡ false) (r : 
     made = omega (arith, length-append (a .reads) (this ∷ []), a .made);
     input = filled .next ∙ ap (λ i. took i (length B) came) (a .input) ∙ sym (took-more noInput (a .reads) this);
     output = sent ∙ ap₂ (λ x y. wrote x y whole) (a .output) (d .text .text) ∙ sym (wrote-more noOutput (a .writes) now-written);
-    end-read = end-met;
-    write-failed = failed-write;
+    end-read = met-end (a .reads) B (r .count) some;
+    write-failed = not-whole (a .writes) text whole;
     rewrites = turn-rewrites;
   }
 
