@@ -66,6 +66,12 @@ cut-stays f h = go (ltb (length f) 3) (ltb (length f) (fieldLength f)) _ (lt-ltb
 abbrev pub mayBeEmpty : List ℕ → Bool
 mayBeEmpty f = eqb (tag f) 3 && leb (bodyLength f) 25
 
+-- which is known from the header
+pub may-kept : (f more : List ℕ) → 3 ≤ length f → mayBeEmpty (f ++ more) ≡ mayBeEmpty f
+may-kept f more h =
+    let n : bodyLength (f ++ more) ≡ bodyLength f = omega (arith, header-kept f more h) in
+    ap₂ (λ t n. eqb t 3 && leb n 25) (List·getD-append f more 0 0 (omega arith)) n
+
 longest-body : (f : List ℕ) → emptyDisturbance f ≡ true → mayBeEmpty f ≡ true
 unfolding cut
 longest-body f e =
@@ -180,11 +186,6 @@ module _ (h more : List ℕ) (header : 3 ≤ length h) (within : length h ≤ fi
   kept-length : (l : List ℕ) → fieldLength (h ++ l) ≡ fieldLength h
   kept-length l = header-kept h l header
 
-  may-kept : (l : List ℕ) → mayBeEmpty (h ++ l) ≡ false
-  may-kept l =
-      let n : bodyLength (h ++ l) ≡ bodyLength h = omega (arith, kept-length l) in
-      ap₂ (λ t n. eqb t 3 && leb n 25) (List·getD-append h l 0 0 (omega arith)) n ∙ other
-
   pub rewritten-stays : rewritten (h ++ more) ≡ h ++ (take announced more ++ rewritten (drop announced more))
   rewritten-stays = go (decLt (length more) announced)
     where
@@ -200,7 +201,7 @@ module _ (h more : List ℕ) (header : 3 ≤ length h) (within : length h ≤ fi
           ap (λ m. rewritten (h ++ m)) (sym (take-append-drop announced more))
           ∙ ap rewritten (sym (append-assoc h body rest))
           ∙ rewritten-whole (h ++ body) rest (omega (arith, length-append h body, n, kept-length body))
-          ∙ ap (λ x. cond x [] (h ++ body) ++ rewritten rest) (other-stays (h ++ body) (may-kept body))
+          ∙ ap (λ x. cond x [] (h ++ body) ++ rewritten rest) (other-stays (h ++ body) (may-kept h body header ∙ other))
           ∙ append-assoc h body (rewritten rest)
 
 -- ---- the fields of a rewritten file

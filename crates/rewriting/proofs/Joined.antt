@@ -22,7 +22,7 @@ module _ (h : Held) (b : ℕ) where
   abbrev field : List ℕ
   field = heldBytes next
 
-  joined-open : undecided field ≡ true → byteJoined h b ≡ noByte next
+  pub joined-open : undecided field ≡ true → byteJoined h b ≡ noByte next
   unfolding byteJoined
   joined-open u = rw u
 

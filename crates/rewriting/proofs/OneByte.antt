@@ -131,7 +131,7 @@ module _ (h : Held) (r : Reached h) where
     pub next-count : length next ≡ h .count + 1
     next-count = ap length held-more ∙ length-append (heldBytes h) (b ∷ []) ∙ omega (arith, held-count)
 
-    next-room : length (withByte h b .bytes) ≡ 28
+    pub next-room : length (withByte h b .bytes) ≡ 28
     next-room = length-set (h .bytes) (h .count) b ∙ r .room
 
     -- ---- a byte that joins those held

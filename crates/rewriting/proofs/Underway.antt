@@ -1,23 +1,21 @@
 -- What turns and the loop of `give` answer.
 use mathlib.Core.Path.{_≡_, refl, sym, ap, _∙_, subst}
-use mathlib.Core.Bool.{Bool, true, false, cond}
 use mathlib.Core.List.{List, [], _∷_, _++_, append-nil}
 use Prim.Native.Nat.{ℕ, _+_, _-_, _≤_, _<_, min}
+use native.Mathlib.Numerals.{add-one}
 use native.Mathlib.Omega.{arith}
-use borrow.Author.Tests.{eqb-false, eq-eqb}
-use lib.Dec.{eqb}
 use lib.ListN.{length, getD, take, drop, length-drop}
-use lib.Seq.{length-take-le, take-all, take-add}
-use Rattle.whole.specs.Tests.{above-zero}
+use lib.Seq.{length-take-le, take-all, take-suc, take-add}
 use Rattle.text.specs.Appended.{Appended, both, named, none-put}
 use Rattle.rewriting.specs.declared.Held.{Held}
 use Rattle.rewriting.specs.declared.Given.{Given}
 use Rattle.rewriting.specs.declared.Taken.{Taken}
-use Rattle.rewriting.specs.Given.{Handed, then, byteJoined, oneByte, manyBytes}
+use Rattle.rewriting.specs.Given.{heldBytes, withBytes, stillOpen, Handed, then, byteJoined, oneByte, manyBytes}
 use Rattle.rewriting.specs.Reached.{Reached}
-use Rattle.rewriting.specs.Done.{Done, bytesTaken, Turned}
+use Rattle.rewriting.specs.Done.{Done, Turned}
 use Rattle.rewriting.proofs.OneByte.{one-joins}
 use Rattle.rewriting.proofs.ManyBytes.{many-then, many-one, many-copied, many-kept}
+use Rattle.rewriting.proofs.Gathered.{with-count, with-left, Gathered, gathered}
 
 only-one : (h : Held) (b : ℕ) → oneByte h b ≡ manyBytes h (b ∷ [])
 only-one h b =
@@ -26,50 +24,65 @@ only-one h b =
 
 -- ---- turns
 -- all that came of a field that stays
-pub copy-turned : (h : Held) (rest : List ℕ) {before after : List ℕ} {at n w : ℕ} → 0 < h .left → n ≡ min (h .left) (length rest)
-    → Appended (length (take n rest)) before after at w (take n rest)
+pub copy-turned : (h : Held) (rest : List ℕ) {before after : List ℕ} {at n w : ℕ} → 0 < h .left → 0 < length rest
+    → n ≡ min (h .left) (length rest) → Appended (length (take n rest)) before after at w (take n rest)
     → Turned h rest before after at (record {
       held = record { bytes = h .bytes; count = h .count; left = h .left - n };
       used = n;
       written = w;
     })
-copy-turned h rest {before} {after} {at} {n} {w} l e a =
-    let t : bytesTaken h rest ≡ min (h .left) (length rest) = ap (λ x. cond x 1 (min (h .left) (length rest))) (above-zero (h .left) l) in
+copy-turned h rest {before} {after} {at} {n} {w} l some e a =
     let k : length (take n rest) ≡ n = length-take-le n rest (omega arith) in
     let c = many-copied h (take n rest) (omega arith) in
     record {
-      used = e ∙ sym t;
-      done = subst (λ m. Done (h .count + m) (manyBytes h (take m rest)) before after at
-          (record { held = record { bytes = h .bytes; count = h .count; left = h .left - n }; written = w })) (e ∙ sym t)
-          (record {
-            held = ap (λ m. record { bytes = h .bytes; count = h .count; left = h .left - m }) (sym k)
-                ∙ sym (ap (λ (s : Handed). s .held) c);
-            text = named (omega arith) (sym (ap (λ (s : Handed). s .text) c)) a;
-          });
+      some = omega arith;
+      within = omega arith;
+      done = record {
+        held = ap (λ m. record { bytes = h .bytes; count = h .count; left = h .left - m }) (sym k)
+            ∙ sym (ap (λ (s : Handed). s .held) c);
+        text = named (omega arith) (sym (ap (λ (s : Handed). s .text) c)) a;
+      };
     }
 
--- one byte that joins those held
-pub join-turned : (h : Held) (rest : List ℕ) {before after : List ℕ} {at : ℕ} {g : Given} → h .left ≡ 0 → 0 < length rest
-    → Done (h .count + 1) (byteJoined h (getD rest 0 0)) before after at g
-    → Turned h rest before after at (record { held = g .held; used = 1; written = g .written })
-join-turned h [] z l d = absurd (omega arith)
-join-turned h (b ∷ rest) {before} {after} {at} {g} z l d =
-    let t : bytesTaken h (b ∷ rest) ≡ 1 = ap (λ x. cond x 1 (min (h .left) (length (b ∷ rest)))) (eq-eqb (h .left) 0 z) in
-    let s : byteJoined h b ≡ manyBytes h (b ∷ []) = sym (one-joins h b z) ∙ only-one h b in
-    record {
-      used = sym t;
-      done = subst (λ m. Done (h .count + m) (manyBytes h (take m (b ∷ rest))) before after at g) (sym t)
-          (subst (λ (s : Handed). Done (h .count + 1) s before after at g) s d);
-    }
+-- n bytes that can't decide their field, and one that joins them
+module _ (h : Held) (rest : List ℕ) (r : Reached h) (z : h .left ≡ 0) (some : 0 < length rest) {n : ℕ}
+    (e : n ≡ min (stillOpen (heldBytes h)) (length rest - 1)) {g : Held} (is : g ≡ withBytes h (take n rest)) where
+  long : length (take n rest) ≡ n
+  long = length-take-le n rest (omega arith)
 
--- a turn takes a byte or more, where one came
-taken-some : (h : Held) (l : List ℕ) → 0 < length l → (0 < bytesTaken h l) × (bytesTaken h l ≤ length l)
-taken-some h l some = go (eqb (h .left) 0) refl
-  where
-    go : (x : Bool) → eqb (h .left) 0 ≡ x
-        → (0 < cond x 1 (min (h .left) (length l))) × (cond x 1 (min (h .left) (length l)) ≤ length l)
-    go true e = (omega arith, some)
-    go false e = (omega (arith, eqb-false (h .left) 0 e), omega arith)
+  only-held : Gathered h (take n rest)
+  only-held = gathered h (take n rest) r z (omega (arith, long))
+
+  pub gathered-reached : Reached g
+  gathered-reached = subst Reached (sym is) (only-held .reached)
+
+  pub gathered-left : g .left ≡ 0
+  gathered-left = ap (λ (k : Held). k .left) is ∙ with-left h (take n rest) ∙ z
+
+  pub gathered-count : g .count ≡ h .count + n
+  gathered-count = ap (λ (k : Held). k .count) is ∙ with-count h (take n rest) ∙ ap (h .count +_) long
+
+  abbrev b : ℕ
+  b = getD rest n 0
+
+  all-held : byteJoined g b ≡ manyBytes h (take (n + 1) rest)
+  all-held =
+      sym (one-joins g b gathered-left) ∙ only-one g b
+      ∙ ap (λ (k : Held). manyBytes k (b ∷ [])) is
+      ∙ sym (ap (manyBytes h) (ap (λ k. take k rest) (add-one n) ∙ take-suc rest n 0 (omega arith))
+      ∙ many-then h (take n rest) (b ∷ [])
+      ∙ ap (λ (s : Handed). then s (manyBytes (s .held) (b ∷ []))) (only-held .many))
+
+  pub join-turned : {before after : List ℕ} {at : ℕ} {t : Given} → Done (g .count + 1) (byteJoined g b) before after at t
+      → Turned h rest before after at (record { held = t .held; used = n + 1; written = t .written })
+  join-turned {before} {after} {at} {t} d = record {
+    some = omega arith;
+    within = omega arith;
+    done = record {
+      held = d .held ∙ ap (λ (s : Handed). s .held) all-held;
+      text = named (omega (arith, gathered-count)) (ap (λ (s : Handed). s .text) all-held) (d .text);
+    };
+  }
 
 -- ---- the loop: after some turns from what `from` holds, with a slice that was `before` and is `after`
 module _ (from : Held) (piece before : List ℕ) (reached : Reached from) where
@@ -112,9 +125,7 @@ module _ (from : Held) (piece before : List ℕ) (reached : Reached from) where
       n = r .used
 
       pub turn-uses : (0 < n) × (used + n ≤ length piece)
-      turn-uses =
-          let k = taken-some h (take (length piece - used) rest) (omega (arith, ap length part, length-drop used piece)) in
-          (omega (arith, t .used, k .0), omega (arith, t .used, k .1, ap length part, length-drop used piece))
+      turn-uses = (t .some, omega (arith, t .within, ap length part, length-drop used piece))
 
       -- the bytes of the turn
       abbrev more : Handed
@@ -123,8 +134,7 @@ module _ (from : Held) (piece before : List ℕ) (reached : Reached from) where
       turned : Done (h .count + n) more after after' written (record { held = r .held; written = r .written })
       turned =
           subst (λ l. Done (h .count + n) (manyBytes h (take n l)) after after' written (record { held = r .held; written = r .written }))
-          part (subst (λ m. Done (h .count + m) (manyBytes h (take m (take (length piece - used) rest))) after after' written
-          (record { held = r .held; written = r .written })) (sym (t .used)) (t .done))
+          part (t .done)
 
       on : manyBytes from (take (used + n) piece) ≡ record { held = more .held; text = s .text ++ more .text }
       on =

@@ -1,9 +1,7 @@
 -- What functions that take bytes answer and leave in the lent slice.
 use mathlib.Core.Path.{_≡_}
 use mathlib.Core.List.{List}
-use mathlib.Core.Bool.{cond}
-use Prim.Native.Nat.{ℕ, _+_, min}
-use lib.Dec.{eqb}
+use Prim.Native.Nat.{ℕ, _+_, _≤_, _<_}
 use lib.ListN.{length, take}
 use Rattle.text.specs.Appended.{Appended}
 use Rattle.rewriting.specs.declared.Held.{Held}
@@ -17,12 +15,9 @@ pub record Done (most : ℕ) (s : Handed) (before after : List ℕ) (at : ℕ) (
   pub held : r .held ≡ s .held
   pub text : Appended most before after at (r .written) (s .text)
 
--- how many bytes of `rest` a turn takes: one that joins those held, or all that came of the field that stays
-abbrev pub bytesTaken : Held → List ℕ → ℕ
-bytesTaken h rest = cond (eqb (h .left) 0) 1 (min (h .left) (length rest))
-
--- a turn does that with the bytes that it takes
+-- a turn does that with a byte or more of `rest`
 pub record Turned (h : Held) (rest before after : List ℕ) (at : ℕ) (r : Taken) : Type 0 where
-  pub used : r .used ≡ bytesTaken h rest
-  pub done : (let n = bytesTaken h rest in
-      Done (h .count + n) (manyBytes h (take n rest)) before after at (record { held = r .held; written = r .written }))
+  pub some : 0 < r .used
+  pub within : r .used ≤ length rest
+  pub done : Done (h .count + r .used) (manyBytes h (take (r .used) rest)) before after at
+      (record { held = r .held; written = r .written })

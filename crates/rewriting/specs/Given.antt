@@ -24,6 +24,11 @@ starting = record { bytes = replicate 28 0; count = 0; left = 0 }
 abbrev pub withByte : Held → ℕ → Held
 withByte h b = record { bytes = set (h .bytes) (h .count) b; count = h .count + 1; left = h .left }
 
+-- bytes more are held
+unfoldable pub withBytes : Held → List ℕ → Held
+withBytes h [] = h
+withBytes h (b ∷ bs) = withBytes (withByte h b) bs
+
 -- none is held, and so many of a field that stays are still to come
 abbrev pub noneHeld : Held → ℕ → Held
 noneHeld h left = record { bytes = h .bytes; count = 0; left = left }
@@ -32,6 +37,10 @@ noneHeld h left = record { bytes = h .bytes; count = 0; left = left }
 -- the bytes of a field's start may still become an empty disturbance: its header isn't all there, or the field could be one and is cut
 unfoldable pub undecided : List ℕ → Bool
 undecided f = ltb (length f) 3 || (mayBeEmpty f && ltb (length f) (fieldLength f))
+
+-- how many bytes more can't decide it: all but the last of its header or, after that, of the field
+unfoldable pub stillOpen : List ℕ → ℕ
+stillOpen f = cond (ltb (length f) 3) 3 (fieldLength f) - length f - 1
 
 -- a body is n, from 1 to 6, and n radii of 0
 unfoldable pub zeroRadii : List ℕ → Bool

@@ -2,13 +2,13 @@
 // turn out to be an empty disturbance, of which at most 28 are held. A part of `rewrite`: what is held is what `begin` gives and `give`
 // leaves. However an input is cut, what the calls hand over is what is left of it (specs/Pieces.antt).
 ghost use mathlib.Core.Path.{_≡_};
-ghost use mathlib.Core.Bool.{false};
+ghost use mathlib.Core.Bool.{true};
 ghost use Prim.Native.Nat.{_+_, _-_, _≤_, _<_, min};
 ghost use lib.ListN.{length};
 ghost use Rattle.model.specs.Run.{fieldLength};
 ghost use Rattle.model.specs.Rewrite.{emptyDisturbance};
 ghost use Rattle.text.specs.Appended.{Appended};
-ghost use Rattle.rewriting.specs.Given.{heldBytes, starting, undecided, zeroRadii, withByte, byteJoined, manyBytes};
+ghost use Rattle.rewriting.specs.Given.{heldBytes, starting, withByte, withBytes, undecided, stillOpen, zeroRadii, byteJoined, manyBytes};
 ghost use Rattle.rewriting.specs.Reached.{Reached};
 ghost use Rattle.rewriting.specs.Done.{Done, Turned};
 
@@ -90,11 +90,15 @@ fn turn(h: Held, rest: &[u8], out: &mut [u8], at: usize) -> Taken
     if h.left > 0 {
         return copy(h, rest, out, at);
     }
-    let g = join(h, rest[0], out, at);
+    let bytes = h.bytes;
+    let count = h.count;
+    let n = least(still_open(&bytes[..count]), rest.len() - 1);
+    let gathered = gather(h, &rest[..n]);
+    let g = join(gathered, rest[n], out, at);
     let held = g.held;
     Taken {
         held,
-        used: 1,
+        used: n + 1,
         written: g.written,
     }
 }
@@ -115,6 +119,25 @@ fn copy(h: Held, rest: &[u8], out: &mut [u8], at: usize) -> Taken
         },
         used: n,
         written,
+    }
+}
+
+// Bytes that can't decide the field are held.
+fn gather(h: Held, more: &[u8]) -> Held
+    requires { ⌜ h .count + length (now more) ≤ 28 ⌝ }
+    ensures { λ r. ⌜ r ≡ withBytes h (now (more .entry)) ⌝ }
+{
+    let mut bytes = h.bytes;
+    let count = h.count;
+    let mut i = 0;
+    while i < more.len() {
+        bytes[count + i] = more[i];
+        i += 1;
+    }
+    Held {
+        bytes,
+        count: count + i,
+        left: h.left,
     }
 }
 
@@ -178,6 +201,17 @@ fn is_open(f: &[u8]) -> bool
     }
     let n = words::short_at(f, 1);
     (n <= LONGEST_BODY) & (f.len() < HEADER + n)
+}
+
+// How many bytes more can't decide the field: all but the last of its header or, after that, of the field.
+fn still_open(f: &[u8]) -> usize
+    requires { ⌜ undecided (now f) ≡ true ⌝ }
+    ensures { λ r. ⌜ r ≡ stillOpen (now (f .entry)) ⌝ }
+{
+    if f.len() < HEADER {
+        return HEADER - 1 - f.len();
+    }
+    missing(f) - 1
 }
 
 // Whether a field is an empty disturbance.

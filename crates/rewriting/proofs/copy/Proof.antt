@@ -33,7 +33,7 @@ returns c =
     let a = c .before .before .before .before in
     let l = a .before .before .before in
     let s = l .before .before .before in
-    copy-turned (s .args .h) (now (s .args .rest)) (s .pre .1) (l .least .ensures) (a .append .ensures)
+    copy-turned (s .args .h) (now (s .args .rest)) (s .pre .1) (s .pre .2) (l .least .ensures) (a .append .ensures)
 
 pub copy-spec : {M : Type 1} → statement M
 copy-spec =
