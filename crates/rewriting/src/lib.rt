@@ -82,7 +82,8 @@ pub fn close(h: Held, out: &mut [u8]) -> usize
     text::appending::append(out, 0, &bytes[..count])
 }
 
-// Takes a byte or more of what is left of a piece, where the lent slice is written up to `at`.
+// Takes a byte or more of what is left of a piece, where the lent slice is written up to `at`: all that came of a field that stays, or
+// bytes that are held, of which only the last can decide their field.
 fn turn(h: Held, rest: &[u8], out: &mut [u8], at: usize) -> Taken
     requires { ⌜ Reached h × (0 < length (now rest)) × (at + (h .count + length (now rest)) ≤ length (now out)) ⌝ }
     ensures { λ r. ⌜ Turned h (now (rest .entry)) (now (out .entry)) (now (out .exit)) at r ⌝ }
@@ -122,7 +123,7 @@ fn copy(h: Held, rest: &[u8], out: &mut [u8], at: usize) -> Taken
     }
 }
 
-// Bytes that can't decide the field are held.
+// With bytes more.
 fn gather(h: Held, more: &[u8]) -> Held
     requires { ⌜ h .count + length (now more) ≤ 28 ⌝ }
     ensures { λ r. ⌜ r ≡ withBytes h (now (more .entry)) ⌝ }

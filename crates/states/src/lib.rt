@@ -12,7 +12,7 @@ pub struct State {
     pub folded: [u64; 6],
 }
 
-// A refused field: document 01's number, and the position of the field's first byte.
+// A refused field: the cause's number, and the position of the field's first byte.
 pub struct Refusal {
     pub number: u8,
     pub place: usize,
