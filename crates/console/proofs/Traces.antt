@@ -1,6 +1,6 @@
 -- One read or one write more.
-use mathlib.Core.Path.{_≡_, refl, sym, ap, _∙_}
-use mathlib.Core.Bool.{Bool, true, not}
+use mathlib.Core.Path.{_≡_, refl, sym, ap, ap₂, _∙_}
+use mathlib.Core.Bool.{Bool, true, false, not}
 use mathlib.Core.List.{List, [], _∷_, _++_, append-assoc, append-nil}
 use Prim.Native.Nat.{ℕ, _<_}
 use borrow.Author.Tests.{eqb-true, not-true}
@@ -9,27 +9,36 @@ use lib.ListN.{length, take}
 use Rattle.console.specs.declared.Input.{Input}
 use Rattle.console.specs.declared.Output.{Output}
 use Rattle.console.specs.Trace.{took, wrote}
-use Rattle.console.specs.History.{Read, tookAll, bytesOf, Write, wroteAll, handedOver, EndRead, WriteFailed}
+use Rattle.console.specs.History.{Read, tookAll, bytesOf, Write, wroteAll, handedOver, EndRead, ReadFailed, WriteFailed}
 
 -- ---- a read
-pub took-more : (i : Input) (rs : List Read) (r : Read) → tookAll i (rs ++ (r ∷ [])) ≡ took (tookAll i rs) (r .asked) (r .bytes)
+pub took-more : (i : Input) (rs : List Read) (r : Read) → tookAll i (rs ++ (r ∷ [])) ≡ took (tookAll i rs) (r .asked) (r .bytes) (r .failed)
 unfolding tookAll
 took-more i [] r = refl
-took-more i (q ∷ rs) r = took-more (took i (q .asked) (q .bytes)) rs r
+took-more i (q ∷ rs) r = took-more (took i (q .asked) (q .bytes) (q .failed)) rs r
 
 pub bytes-more : (rs : List Read) (r : Read) → bytesOf (rs ++ (r ∷ [])) ≡ bytesOf rs ++ r .bytes
 unfolding bytesOf
 bytes-more [] r = append-nil (r .bytes)
 bytes-more (q ∷ rs) r = ap (q .bytes ++_) (bytes-more rs r) ∙ sym (append-assoc (q .bytes) (bytesOf rs) (r .bytes))
 
--- one that brought no byte into a buffer that has room
-pub met-end : (rs : List Read) (buffer : List ℕ) (count : ℕ) → 0 < length buffer → eqb count 0 ≡ true
-    → EndRead (rs ++ (record { asked = length buffer; bytes = take count buffer } ∷ []))
-met-end rs buffer count some e = record {
+-- one that brought no byte into a buffer that has room, and did not fail
+pub met-end : (rs : List Read) (buffer : List ℕ) (count : ℕ) (failed : Bool) → 0 < length buffer → eqb count 0 ≡ true → failed ≡ false
+    → EndRead (rs ++ (record { asked = length buffer; bytes = take count buffer; failed = failed } ∷ []))
+met-end rs buffer count failed some e g = record {
   before = rs;
   asked = length buffer;
   some = some;
-  last = ap (λ n. rs ++ (record { asked = length buffer; bytes = take n buffer } ∷ [])) (eqb-true count 0 e);
+  last = ap₂ (λ n b. rs ++ (record { asked = length buffer; bytes = take n buffer; failed = b } ∷ [])) (eqb-true count 0 e) g;
+}
+
+-- one that failed
+pub met-failure : (rs : List Read) (buffer : List ℕ) (count : ℕ) (failed : Bool) → count ≡ 0 → failed ≡ true
+    → ReadFailed (rs ++ (record { asked = length buffer; bytes = take count buffer; failed = failed } ∷ []))
+met-failure rs buffer count failed e g = record {
+  before = rs;
+  asked = length buffer;
+  last = ap₂ (λ n b. rs ++ (record { asked = length buffer; bytes = take n buffer; failed = b } ∷ [])) e g;
 }
 
 -- ---- a write

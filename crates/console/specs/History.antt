@@ -1,21 +1,22 @@
 -- Some reads and some writes, one after the other, by the calls that made them.
 use mathlib.Core.Path.{_≡_}
 use mathlib.Core.List.{List, [], _∷_, _++_}
-use mathlib.Core.Bool.{Bool, false}
+use mathlib.Core.Bool.{Bool, true, false}
 use Prim.Native.Nat.{ℕ, _<_}
 use Rattle.console.specs.declared.Input.{Input}
 use Rattle.console.specs.declared.Output.{Output}
 use Rattle.console.specs.Trace.{took, wrote}
 
--- a call that read: how many bytes were asked for at most, and which came
+-- a call that read: how many bytes were asked for at most, which came, and whether the read failed
 pub record Read : Type 0 where
   pub asked : ℕ
   pub bytes : List ℕ
+  pub failed : Bool
 
 -- the history of some reads
 unfoldable pub tookAll : Input → List Read → Input
 tookAll i [] = i
-tookAll i (r ∷ rs) = tookAll (took i (r .asked) (r .bytes)) rs
+tookAll i (r ∷ rs) = tookAll (took i (r .asked) (r .bytes) (r .failed)) rs
 
 -- all bytes that they read
 unfoldable pub bytesOf : List Read → List ℕ
@@ -37,12 +38,18 @@ unfoldable pub handedOver : List Write → List ℕ
 handedOver [] = []
 handedOver (w ∷ ws) = w .bytes ++ handedOver ws
 
--- the last read asked for bytes and got none
+-- the last read asked for bytes and got none, and did not fail
 pub record EndRead (rs : List Read) : Type 0 where
   pub before : List Read
   pub asked : ℕ
   pub some : 0 < asked
-  pub last : rs ≡ before ++ (record { asked = asked; bytes = [] } ∷ [])
+  pub last : rs ≡ before ++ (record { asked = asked; bytes = []; failed = false } ∷ [])
+
+-- the last read failed
+pub record ReadFailed (rs : List Read) : Type 0 where
+  pub before : List Read
+  pub asked : ℕ
+  pub last : rs ≡ before ++ (record { asked = asked; bytes = []; failed = true } ∷ [])
 
 -- the last write failed
 pub record WriteFailed (ws : List Write) : Type 0 where

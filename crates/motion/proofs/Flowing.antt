@@ -1,8 +1,8 @@
 -- A turn of the program keeps what it knows, and fewer can follow.
 use mathlib.Core.Path.{_≡_, refl, sym, ap, ap₂, _∙_, subst}
-use mathlib.Core.Bool.{Bool, true, false, not, cond, _||_, true≢false}
+use mathlib.Core.Bool.{Bool, true, false, not, cond, _&&_, _||_, true≢false, and-false}
 use mathlib.Core.List.{List, [], _∷_, _++_, append-assoc, append-nil}
-use Prim.Native.Nat.{ℕ, _+_, _-_, _≤_, _<_}
+use Prim.Native.Nat.{ℕ, suc, _+_, _-_, _≤_, _<_}
 use native.Mathlib.Omega.{arith}
 use borrow.Author.Tests.{eqb-false, not-true}
 use Rattle.whole.specs.Tests.{or-left, or-right}
@@ -19,7 +19,7 @@ use Rattle.console.specs.declared.Filled.{Filled}
 use Rattle.console.specs.declared.Output.{Output}
 use Rattle.console.specs.Trace.{noInput, noOutput, took, wrote, FilledFrom}
 use Rattle.console.specs.History.{Read, tookAll, bytesOf, Write, wroteAll, handedOver}
-use Rattle.console.proofs.Traces.{took-more, bytes-more, met-end, wrote-more, handed-more, not-whole}
+use Rattle.console.proofs.Traces.{took-more, bytes-more, met-end, met-failure, wrote-more, handed-more, not-whole}
 use Rattle.feeding.specs.declared.Progress.{Progress}
 use Rattle.feeding.specs.declared.Fed.{Fed}
 use Rattle.feeding.specs.Fed as Feeding
@@ -29,17 +29,18 @@ use Rattle.feeding.specs.Done.{Done}
 use Rattle.feeding.proofs.Turns.{fed-reached, fed-within, fed-place, fed-no-more, fed-falls, fed-prints, ready-by}
 use Rattle.feeding.proofs.Pieces.{starting-reached, starting-prints}
 use Rattle.motion.specs.declared.Flow.{Flow}
-use Rattle.motion.specs.Streamed.{Streamed}
-use Rattle.motion.specs.Along.{startingFlow, heldBytes, Along, Refilled, callsLeft}
+use Rattle.motion.specs.Streamed.{Unclosed, Streamed}
+use Rattle.motion.proofs.Closed.{cut-closes}
+use Rattle.motion.specs.Along.{startingFlow, heldBytes, Stopped, Along, Refilled, callsLeft}
 
 -- ---- the start
 pub flow-begun : {p : Progress} {i : Input} {o : Output} → p ≡ Feeding.starting → i ≡ noInput → o ≡ noOutput
-    → record { progress = p; held = 0; ended = false; failed = false; input = i; output = o } ≡ startingFlow
+    → record { progress = p; held = 0; ended = false; unread = false; failed = false; input = i; output = o } ≡ startingFlow
 flow-begun e g h = ap₃ e g h
   where
     ap₃ : {p q : Progress} {i j : Input} {o u : Output} → p ≡ q → i ≡ j → o ≡ u
-        → _≡_ {A = Flow} (record { progress = p; held = 0; ended = false; failed = false; input = i; output = o })
-        (record { progress = q; held = 0; ended = false; failed = false; input = j; output = u })
+        → _≡_ {A = Flow} (record { progress = p; held = 0; ended = false; unread = false; failed = false; input = i; output = o })
+        (record { progress = q; held = 0; ended = false; unread = false; failed = false; input = j; output = u })
     ap₃ e g h = rw (e, g, h)
 
 pub along-begins : (buffer : List ℕ) → Along startingFlow buffer
@@ -53,6 +54,8 @@ along-begins buffer = record {
   input = refl;
   output = refl;
   end-read = λ e. absurd (true≢false (sym e));
+  read-failed = λ e. absurd (true≢false (sym e));
+  stopped = λ e. absurd (true≢false (sym e));
   write-failed = λ e. absurd (true≢false (sym e));
   prints = λ more last. sym (starting-prints more);
 }
@@ -64,7 +67,7 @@ no-read f buffer a e h = record {
   along = a;
   progress = refl;
   no-less = omega arith;
-  more = λ n. absurd (true≢false (sym h ∙ ap (f .ended ||_) e ∙ n));
+  more = λ _ n. absurd (true≢false (sym h ∙ ap (f .ended ||_) e ∙ n));
 }
 
 -- where no whole field is held there is room to read
@@ -74,19 +77,20 @@ room-left held buffer B h e l k =
     omega (arith, length-take-le held buffer h, length-take (length buffer - held) (drop held buffer), length-drop held buffer)
 
 -- B was filled after what is held, and P follows it
-module _ (f : Flow) (buffer B P : List ℕ) (a : Along f buffer) (on : f .ended ≡ false) (r : Filled) (filled : FilledFrom (f .input) B r)
-    (some : 0 < length B) where
+module _ (f : Flow) (buffer B P : List ℕ) (a : Along f buffer) (on : f .ended ≡ false) (going : f .progress .done ≡ false)
+    (brief : cut (heldBytes f buffer) ≡ true) (r : Filled) (filled : FilledFrom (f .input) B r) (some : 0 < length B) where
   abbrev bytes : List ℕ
   bytes = take (r .count) B
 
   abbrev this : Read
-  this = record { asked = length B; bytes = bytes }
+  this = record { asked = length B; bytes = bytes; failed = r .failed }
 
   abbrev next : Flow
   next = record {
     progress = f .progress;
     held = f .held + r .count;
-    ended = eqb (r .count) 0;
+    ended = eqb (r .count) 0 && not (r .failed);
+    unread = r .failed;
     failed = f .failed;
     input = r .input;
     output = f .output;
@@ -102,7 +106,12 @@ module _ (f : Flow) (buffer B P : List ℕ) (a : Along f buffer) (on : f .ended 
       ap (λ k. take (k + r .count) (H ++ (B ++ P))) (sym n) ∙ take-append-add H (B ++ P) (r .count)
       ∙ ap (H ++_) (take-append-le (r .count) B P (filled .within))
 
-  read-prints : (more : List ℕ) → (eqb (r .count) 0 ≡ true → more ≡ [])
+  -- where the read failed, nothing more is held
+  none-came : r .failed ≡ true → heldBytes next after ≡ heldBytes f buffer
+  none-came e =
+      rest-more ∙ ap (λ n. heldBytes f buffer ++ take n B) (filled .none e) ∙ append-nil (heldBytes f buffer)
+
+  read-prints : (more : List ℕ) → (next .ended ≡ true → more ≡ [])
       → printed (bytesOf (a .reads ++ (this ∷ [])) ++ more)
       ≡ handedOver (a .writes) ++ remaining (f .progress) (heldBytes next after ++ more)
   read-prints more last =
@@ -126,16 +135,48 @@ module _ (f : Flow) (buffer B P : List ℕ) (a : Along f buffer) (on : f .ended 
       );
       reads = a .reads ++ (this ∷ []);
       writes = a .writes;
-      input = filled .next ∙ ap (λ i. took i (length B) bytes) (a .input) ∙ sym (took-more noInput (a .reads) this);
+      input = filled .next ∙ ap (λ i. took i (length B) bytes (r .failed)) (a .input) ∙ sym (took-more noInput (a .reads) this);
       output = a .output;
-      end-read = met-end (a .reads) B (r .count) some;
+      end-read = λ e. let h = both (eqb (r .count) 0) (r .failed) e in met-end (a .reads) B (r .count) (r .failed) some (h .0) (h .1);
+      read-failed = λ e. met-failure (a .reads) B (r .count) (r .failed) (filled .none e) e;
+      stopped = λ e. record {
+        brief = ap cut (none-came e) ∙ brief;
+        going = going;
+        more = ap (λ b. eqb (r .count) 0 && not b) e ∙ and-false (eqb (r .count) 0);
+      };
       write-failed = a .write-failed;
       prints = read-prints;
     };
     progress = refl;
     no-less = omega arith;
-    more = λ n. omega (arith, eqb-false (r .count) 0 (or-left (eqb (r .count) 0) _ n));
+    more = λ good n. omega (arith, eqb-false (r .count) 0 (some-came (eqb (r .count) 0) (r .failed) (or-left (next .ended) _ n) good));
   }
+    where
+      both : (x y : Bool) → x && not y ≡ true → (x ≡ true) × (y ≡ false)
+      both true false e = (refl, refl)
+      both true true e = absurd (true≢false (sym e))
+      both false y e = absurd (true≢false (sym e))
+
+      some-came : (x y : Bool) → x && not y ≡ false → y ≡ false → x ≡ false
+      some-came true true e g = absurd (true≢false g)
+      some-came true false e g = e
+      some-came false y e g = refl
+
+-- ---- a failed read
+-- while no read has failed
+calls-left : (f : Flow) → f .unread ≡ false
+    → callsLeft f ≡ suc (turnsLeft (f .progress) + (270000000 - (f .progress .place + f .held)))
+calls-left f e = rw e
+
+-- the one that fails is the last turn
+pub turn-stopped : (f g : Flow) (buffer : List ℕ) → Refilled f g buffer → f .unread ≡ false → g .unread ≡ true
+    → Along g buffer × (callsLeft g < callsLeft f)
+turn-stopped f g buffer r good bad = (
+  r .along,
+  subst (λ n. callsLeft g < n) (sym (calls-left f good))
+      (subst (λ b. cond b 0 (suc (turnsLeft (g .progress) + (270000000 - (g .progress .place + g .held))))
+      < suc (turnsLeft (f .progress) + (270000000 - (f .progress .place + f .held)))) (sym bad) (omega arith)),
+)
 
 -- ---- taking fields and writing their lines
 module _ (f g : Flow) (buffer : List ℕ) (a : Along g buffer) (room : ℕ) {out out' : List ℕ} (r : Fed)
@@ -162,6 +203,7 @@ module _ (f g : Flow) (buffer : List ℕ) (a : Along g buffer) (room : ℕ) {out
       progress = r .progress;
       held = g .held - r .used;
       ended = g .ended;
+      unread = false;
       failed = not whole;
       input = g .input;
       output = o;
@@ -190,13 +232,15 @@ module _ (f g : Flow) (buffer : List ℕ) (a : Along g buffer) (room : ℕ) {out
       input = a .input;
       output = sent ∙ ap₂ (λ x y. wrote x y whole) (a .output) text-written ∙ sym (wrote-more noOutput (a .writes) now-written);
       end-read = a .end-read;
+      read-failed = λ e. absurd (true≢false (sym e));
+      stopped = λ e. absurd (true≢false (sym e));
       write-failed = not-whole (a .writes) (t .text) whole;
       prints = turn-prints;
     }
 
     -- fewer turns can follow
     module _ (refilled : Refilled f g buffer) (on : f .progress .done ≡ false) (large : longestLine ≤ room)
-        (short : length buffer ≤ 131072) where
+        (short : length buffer ≤ 131072) (good : f .unread ≡ false) (came : g .unread ≡ false) where
       abbrev p : Progress
       p = g .progress
 
@@ -222,28 +266,42 @@ module _ (f g : Flow) (buffer : List ℕ) (a : Along g buffer) (room : ℕ) {out
       unfolding viewed
       place-below = omega (arith, a .placed going, a .reached .sound .count-in, a .within)
 
-      from-here : callsLeft then < turnsLeft p + (270000000 - (p .place + f .held))
+      from-here : turnsLeft (r .progress) + (270000000 - (r .progress .place + (g .held - r .used)))
+          < turnsLeft p + (270000000 - (p .place + f .held))
       from-here = go (g .ended || not (cut (heldBytes g buffer))) refl
         where
           go : (b : Bool) → g .ended || not (cut (heldBytes g buffer)) ≡ b
               → turnsLeft (r .progress) + (270000000 - (r .progress .place + (g .held - r .used)))
               < turnsLeft p + (270000000 - (p .place + f .held))
           go true e = omega (arith, fewer-turns e, next-place, used-within, refilled .no-less)
-          go false e = omega (arith, turns-no-more, next-place, used-within, refilled .more e, place-below)
+          go false e = omega (arith, turns-no-more, next-place, used-within, refilled .more came e, place-below)
 
       turn-falls : callsLeft then < callsLeft f
       turn-falls =
-          subst (λ (q : Progress). callsLeft then < turnsLeft q + (270000000 - (q .place + f .held))) (refilled .progress) from-here
+          subst (λ n. callsLeft then < n) (sym (calls-left f good))
+          (omega (
+            arith,
+            subst (λ (q : Progress). turnsLeft (r .progress) + (270000000 - (r .progress .place + (g .held - r .used)))
+                < turnsLeft q + (270000000 - (q .place + f .held))) (refilled .progress) from-here,
+          ))
 
       pub turn-done : Along then after × (callsLeft then < callsLeft f)
       turn-done = (turn-along, turn-falls)
 
 -- ---- the loop
-pub starts : {f : Flow} (buffer : List ℕ) → f ≡ startingFlow → Along f buffer × (false ≡ f .failed || f .progress .done)
-starts buffer e = subst (λ (f : Flow). Along f buffer × (false ≡ f .failed || f .progress .done)) (sym e) (along-begins buffer, refl)
+-- whether the program is over
+abbrev pub isOver : Flow → Bool
+isOver f = (f .failed || f .unread) || f .progress .done
 
-pub not-done : (over : Bool) (f : Flow) → over ≡ f .failed || f .progress .done → not over ≡ true → f .progress .done ≡ false
-not-done over f e h = or-right (f .failed) (f .progress .done) (sym e ∙ not-true over h)
+pub starts : {f : Flow} (buffer : List ℕ) → f ≡ startingFlow → Along f buffer × (false ≡ isOver f)
+starts buffer e = subst (λ (f : Flow). Along f buffer × (false ≡ isOver f)) (sym e) (along-begins buffer, refl)
+
+module _ (over : Bool) (f : Flow) (e : over ≡ isOver f) (h : not over ≡ true) where
+  pub not-done : f .progress .done ≡ false
+  not-done = or-right (f .failed || f .unread) (f .progress .done) (sym e ∙ not-true over h)
+
+  pub not-unread : f .unread ≡ false
+  not-unread = or-right (f .failed) (f .unread) (or-left (f .failed || f .unread) (f .progress .done) (sym e ∙ not-true over h))
 
 -- ---- the end
 nothing-left : (f : Flow) (l : List ℕ) (ws : List Write) → f .progress .done ≡ true
@@ -251,21 +309,36 @@ nothing-left : (f : Flow) (l : List ℕ) (ws : List Write) → f .progress .done
 nothing-left f l ws d =
     ap (λ b. handedOver ws ++ cond b [] (printedFrom (f .progress .place) (viewed (f .progress .state)) l)) d ∙ append-nil (handedOver ws)
 
-pub streamed : (f : Flow) (buffer : List ℕ) → Along f buffer → f .failed || f .progress .done ≡ true → Streamed f
+-- what would close the output where a read failed
+left-open : (f : Flow) (buffer : List ℕ) → Along f buffer → (reads : List Read) (writes : List Write)
+    → printed (bytesOf reads ++ []) ≡ handedOver writes ++ remaining (f .progress) (heldBytes f buffer ++ []) → Stopped f buffer
+    → Unclosed (bytesOf reads) (handedOver writes)
+unfolding viewed
+left-open f buffer a reads writes e s = record {
+  last = printedFrom (f .progress .place) (viewed (f .progress .state)) (heldBytes f buffer);
+  closing = cut-closes (f .progress .place) (viewed (f .progress .state)) (heldBytes f buffer) (a .reached .going (s .going)) (s .brief);
+  all-but =
+      ap printed (sym (append-nil (bytesOf reads))) ∙ e
+      ∙ ap₂ (λ b l. handedOver writes ++ cond b [] (printedFrom (f .progress .place) (viewed (f .progress .state)) l)) (s .going)
+      (append-nil (heldBytes f buffer));
+}
+
+pub streamed : (f : Flow) (buffer : List ℕ) → Along f buffer → isOver f ≡ true → Streamed f
 streamed f buffer a over = record {
   reads = a .reads;
   writes = a .writes;
   input = a .input;
   output = a .output;
   end-read = a .end-read;
+  read-failed = a .read-failed;
   write-failed = a .write-failed;
-  all = λ went more last. sym (a .prints more last ∙ nothing-left f (heldBytes f buffer ++ more) (a .writes) (by-done went));
+  all = λ good went more last.
+      sym (a .prints more last ∙ nothing-left f (heldBytes f buffer ++ more) (a .writes) (third (f .failed) (f .unread) _ over went good));
+  unclosed = λ e. left-open f buffer a (a .reads) (a .writes) (a .prints [] (λ _. refl)) (a .stopped e);
   begins = λ more last. (remaining (f .progress) (heldBytes f buffer ++ more), a .prints more last);
 }
   where
-    second-true : (x y : Bool) → x || y ≡ true → x ≡ false → y ≡ true
-    second-true true y h e = absurd (true≢false e)
-    second-true false y h e = h
-
-    by-done : f .failed ≡ false → f .progress .done ≡ true
-    by-done = second-true (f .failed) (f .progress .done) over
+    third : (x y z : Bool) → (x || y) || z ≡ true → x ≡ false → y ≡ false → z ≡ true
+    third true y z h e g = absurd (true≢false e)
+    third false true z h e g = absurd (true≢false g)
+    third false false z h e g = h

@@ -1,5 +1,7 @@
 -- Laws that the proofs cite.
+--     Closed    what is printed where no whole field is left
 --     Flowing   a turn of the program
 --     Shifted   bytes moved to the start of a buffer
+pub mod Closed
 pub mod Flowing
 pub mod Shifted

@@ -3,10 +3,21 @@ use mathlib.Core.Path.{_≡_}
 use mathlib.Core.List.{List, [], _++_}
 use mathlib.Core.Bool.{true, false}
 use Prim.Native.Nat.{ℕ}
-use Rattle.model.specs.Text.{printed}
+use Rattle.model.specs.Text.{refusalLine, foldedLine, endLine, printed}
 use Rattle.console.specs.Trace.{noInput, noOutput}
-use Rattle.console.specs.History.{Read, tookAll, bytesOf, Write, wroteAll, handedOver, EndRead, WriteFailed}
+use Rattle.console.specs.History.{Read, tookAll, bytesOf, Write, wroteAll, handedOver, EndRead, ReadFailed, WriteFailed}
 use Rattle.motion.specs.declared.Flow.{Flow}
+
+-- the lines that close an output: the totals and the end of a run, or a refusal
+pub data Closing : List ℕ → Type 0 where
+  ended : (totals : List ℕ) (field : ℕ) → Closing (foldedLine totals ++ endLine field)
+  refused : (field number place : ℕ) → Closing (refusalLine field number place)
+
+-- the output is what is printed for the input but for the lines that close it
+pub record Unclosed (input output : List ℕ) : Type 0 where
+  pub last : List ℕ
+  pub closing : Closing last
+  pub all-but : printed input ≡ output ++ last
 
 -- The program is over.
 pub record Streamed (f : Flow) : Type 0 where
@@ -15,11 +26,15 @@ pub record Streamed (f : Flow) : Type 0 where
   -- these reads and these writes were made, in this order
   pub input : f .input ≡ tookAll noInput reads
   pub output : f .output ≡ wroteAll noOutput writes
-  -- it says that the input has ended only where a read met the end, and that a write failed only where one did
+  -- it says that the input has ended only where a read met the end, and that a read or a write failed only where one did
   pub end-read : f .ended ≡ true → EndRead reads
+  pub read-failed : f .unread ≡ true → ReadFailed reads
   pub write-failed : f .failed ≡ true → WriteFailed writes
-  -- Where no write failed, what was written is what is printed for what was read, whatever may follow that; nothing does after the end.
-  pub all : f .failed ≡ false → (more : List ℕ) → (f .ended ≡ true → more ≡ []) → handedOver writes ≡ printed (bytesOf reads ++ more)
-  -- Else it is how that begins.
+  -- Where neither failed, what was written is what is printed for what was read, whatever may follow that; nothing does after the end.
+  pub all : f .unread ≡ false → f .failed ≡ false → (more : List ℕ) → (f .ended ≡ true → more ≡ [])
+      → handedOver writes ≡ printed (bytesOf reads ++ more)
+  -- Where a read failed, it is that without an end or a refusal.
+  pub unclosed : f .unread ≡ true → Unclosed (bytesOf reads) (handedOver writes)
+  -- However the program ended, it is how that begins.
   pub begins : (more : List ℕ) → (f .ended ≡ true → more ≡ [])
       → (later : List ℕ) × (printed (bytesOf reads ++ more) ≡ handedOver writes ++ later)

@@ -16,7 +16,7 @@ use Rattle.console.specs.declared.Filled.{Filled}
 use Rattle.console.specs.declared.Output.{Output}
 use Rattle.console.specs.Trace.{noInput, noOutput, took, wrote, FilledFrom}
 use Rattle.console.specs.History.{Read, tookAll, bytesOf, Write, wroteAll, handedOver}
-use Rattle.console.proofs.Traces.{took-more, bytes-more, met-end, wrote-more, handed-more, not-whole}
+use Rattle.console.proofs.Traces.{took-more, bytes-more, met-end, met-failure, wrote-more, handed-more, not-whole}
 use Rattle.rewriting.specs.declared.Held.{Held}
 use Rattle.rewriting.specs.declared.Given.{Given}
 use Rattle.rewriting.specs.Given as Rewriting
@@ -32,12 +32,12 @@ use Rattle.rewrite.specs.Along.{startingFlow, passed, stillLeft, Along, 
 
 -- ---- the start
 pub flow-begun : {h : Held} {i : Input} {o : Output} → h ≡ Rewriting.starting → i ≡ noInput → o ≡ noOutput
-    → record { held = h; allowed = mostReads; ended = false; failed = false; input = i; output = o } ≡ startingFlow
+    → record { held = h; allowed = mostReads; ended = false; unread = false; failed = false; input = i; output = o } ≡ startingFlow
 flow-begun e g h = ap₃ e g h
   where
     ap₃ : {h k : Held} {i j : Input} {o u : Output} → h ≡ k → i ≡ j → o ≡ u
-        → _≡_ {A = Flow} (record { held = h; allowed = mostReads; ended = false; failed = false; input = i; output = o })
-        (record { held = k; allowed = mostReads; ended = false; failed = false; input = j; output = u })
+        → _≡_ {A = Flow} (record { held = h; allowed = mostReads; ended = false; unread = false; failed = false; input = i; output = o })
+        (record { held = k; allowed = mostReads; ended = false; unread = false; failed = false; input = j; output = u })
     ap₃ e g h = rw (e, g, h)
 
 along-begins : Along startingFlow
@@ -50,6 +50,7 @@ along-begins = record {
   input = refl;
   output = refl;
   end-read = λ e. absurd (true≢false (sym e));
+  read-failed = λ e. absurd (true≢false (sym e));
   write-failed = λ e. absurd (true≢false (sym e));
   rewrites = λ more last. sym (starting-remains more);
 }
@@ -104,79 +105,126 @@ module _ (h : Held) (came : List ℕ) where
         go false e = many-kept h came r .remains more
 
 -- ---- a turn
--- B was filled, what it brought was passed, and the text handed over
-module _ (f : Flow) (B : List ℕ) (a : Along f) (on : f .ended ≡ false) (r : Filled) (filled : FilledFrom (f .input) B r)
-    (some : 0 < length B) {most : ℕ} {out out' : List ℕ} (g : Given) (d : Done most (passed (f .held) (take (r .count) B)) out out' 0 g)
-    (o : Output) (whole : Bool) (sent : o ≡ wrote (f .output) (take (g .written) out') whole) where
+-- B was filled
+module _ (f : Flow) (B : List ℕ) (a : Along f) (on : f .ended ≡ false) (r : Filled) (filled : FilledFrom (f .input) B r) where
   abbrev came : List ℕ
   came = take (r .count) B
 
-  abbrev text : List ℕ
-  text = passed (f .held) came .text
-
   abbrev this : Read
-  this = record { asked = length B; bytes = came }
+  this = record { asked = length B; bytes = came; failed = r .failed }
 
-  abbrev now-written : Write
-  now-written = record { bytes = text; whole = whole }
+  input-is : r .input ≡ tookAll noInput (a .reads ++ (this ∷ []))
+  input-is =
+      filled .next ∙ ap (λ i. took i (length B) came (r .failed)) (a .input) ∙ sym (took-more noInput (a .reads) this)
 
-  abbrev next : Flow
-  next = record {
-    held = g .held;
-    allowed = f .allowed - 1;
-    ended = eqb (r .count) 0;
-    failed = not whole;
-    input = r .input;
-    output = o;
-  }
-
-  came-count : length came ≡ r .count
-  came-count = length-take-le (r .count) B (filled .within)
-
-  turn-rewrites : (more : List ℕ) → (eqb (r .count) 0 ≡ true → more ≡ [])
-      → rewritten (bytesOf (a .reads ++ (this ∷ [])) ++ more) ≡ handedOver (a .writes ++ (now-written ∷ [])) ++ stillLeft next more
-  turn-rewrites more last =
-      let same = came-count in
+  -- what is left of what was read before and now
+  read-rewrites : (more : List ℕ)
+      → rewritten (bytesOf (a .reads ++ (this ∷ [])) ++ more) ≡ handedOver (a .writes) ++ remaining (f .held) (came ++ more)
+  read-rewrites more =
       ap (λ l. rewritten (l ++ more)) (bytes-more (a .reads) this)
       ∙ ap rewritten (append-assoc (bytesOf (a .reads)) came more)
       ∙ a .rewrites (came ++ more) (λ e. absurd (true≢false (sym e ∙ on)))
       ∙ ap (λ x. handedOver (a .writes) ++ cond x [] (remaining (f .held) (came ++ more))) on
-      ∙ ap (handedOver (a .writes) ++_) (passed-remains (f .held) came (a .reached) more
-      (λ e. last (ap (λ n. eqb n 0) (sym same) ∙ e)))
-      ∙ sym (append-assoc (handedOver (a .writes)) text _)
-      ∙ ap₂ _++_ (sym (handed-more (a .writes) now-written))
-      (ap₂ (λ n h. cond (eqb n 0) [] (remaining h more)) same (sym (d .held)))
 
-  turn-along : 0 < f .allowed → Along next
-  turn-along l = record {
-    reached = subst Reached (sym (d .held)) (passed-reached (f .held) came (a .reached));
-    reads = a .reads ++ (this ∷ []);
-    writes = a .writes ++ (now-written ∷ []);
-    made = omega (arith, length-append (a .reads) (this ∷ []), a .made);
-    input = filled .next ∙ ap (λ i. took i (length B) came) (a .input) ∙ sym (took-more noInput (a .reads) this);
-    output = sent ∙ ap₂ (λ x y. wrote x y whole) (a .output) (d .text .text) ∙ sym (wrote-more noOutput (a .writes) now-written);
-    end-read = met-end (a .reads) B (r .count) some;
-    write-failed = not-whole (a .writes) text whole;
-    rewrites = turn-rewrites;
-  }
+  -- and that failed: nothing came
+  module _ (bad : r .failed ≡ true) where
+    abbrev stopped : Flow
+    stopped = record {
+      held = f .held;
+      allowed = f .allowed - 1;
+      ended = false;
+      unread = true;
+      failed = false;
+      input = r .input;
+      output = f .output;
+    }
 
-  pub turn-done : 0 < f .allowed → TurnMade f next
-  turn-done l = record { along = turn-along l; fewer = omega arith }
+    pub turn-stopped : 0 < f .allowed → TurnMade f stopped
+    turn-stopped l = record {
+      along = record {
+        reached = a .reached;
+        reads = a .reads ++ (this ∷ []);
+        writes = a .writes;
+        made = omega (arith, length-append (a .reads) (this ∷ []), a .made);
+        input = input-is;
+        output = a .output;
+        end-read = λ e. absurd (true≢false (sym e));
+        read-failed = λ _. met-failure (a .reads) B (r .count) (r .failed) (filled .none bad) bad;
+        write-failed = λ e. absurd (true≢false (sym e));
+        rewrites = λ more last.
+            read-rewrites more ∙ ap (λ n. handedOver (a .writes) ++ remaining (f .held) (take n B ++ more)) (filled .none bad);
+      };
+      fewer = omega arith;
+    }
+
+  -- else what it brought was passed, and the text handed over
+  module _ (good : r .failed ≡ false) (some : 0 < length B) {most : ℕ} {out out' : List ℕ} (g : Given)
+      (d : Done most (passed (f .held) came) out out' 0 g) (o : Output) (whole : Bool)
+      (sent : o ≡ wrote (f .output) (take (g .written) out') whole) where
+    abbrev text : List ℕ
+    text = passed (f .held) came .text
+
+    abbrev now-written : Write
+    now-written = record { bytes = text; whole = whole }
+
+    abbrev next : Flow
+    next = record {
+      held = g .held;
+      allowed = f .allowed - 1;
+      ended = eqb (r .count) 0;
+      unread = false;
+      failed = not whole;
+      input = r .input;
+      output = o;
+    }
+
+    came-count : length came ≡ r .count
+    came-count = length-take-le (r .count) B (filled .within)
+
+    turn-rewrites : (more : List ℕ) → (eqb (r .count) 0 ≡ true → more ≡ [])
+        → rewritten (bytesOf (a .reads ++ (this ∷ [])) ++ more) ≡ handedOver (a .writes ++ (now-written ∷ [])) ++ stillLeft next more
+    turn-rewrites more last =
+        let same = came-count in
+        read-rewrites more
+        ∙ ap (handedOver (a .writes) ++_) (passed-remains (f .held) came (a .reached) more
+        (λ e. last (ap (λ n. eqb n 0) (sym same) ∙ e)))
+        ∙ sym (append-assoc (handedOver (a .writes)) text _)
+        ∙ ap₂ _++_ (sym (handed-more (a .writes) now-written))
+        (ap₂ (λ n h. cond (eqb n 0) [] (remaining h more)) same (sym (d .held)))
+
+    pub turn-done : 0 < f .allowed → TurnMade f next
+    turn-done l = record {
+      along = record {
+        reached = subst Reached (sym (d .held)) (passed-reached (f .held) came (a .reached));
+        reads = a .reads ++ (this ∷ []);
+        writes = a .writes ++ (now-written ∷ []);
+        made = omega (arith, length-append (a .reads) (this ∷ []), a .made);
+        input = input-is;
+        output = sent ∙ ap₂ (λ x y. wrote x y whole) (a .output) (d .text .text) ∙ sym (wrote-more noOutput (a .writes) now-written);
+        end-read = λ e. met-end (a .reads) B (r .count) (r .failed) some e good;
+        read-failed = λ e. absurd (true≢false (sym e));
+        write-failed = not-whole (a .writes) text whole;
+        rewrites = turn-rewrites;
+      };
+      fewer = omega arith;
+    }
 
 -- ---- the loop
 -- whether the program is over
 abbrev pub isOver : Flow → Bool
-isOver f = (f .ended || f .failed) || eqb (f .allowed) 0
+isOver f = ((f .ended || f .unread) || f .failed) || eqb (f .allowed) 0
 
 pub starts : {f : Flow} → f ≡ startingFlow → Along f × (false ≡ isOver f)
 starts e = subst (λ (f : Flow). Along f × (false ≡ isOver f)) (sym e) (along-begins, refl)
 
 module _ (f : Flow) (off : isOver f ≡ false) where
   pub not-ended : f .ended ≡ false
-  not-ended = or-left (f .ended) (f .failed) (or-left (f .ended || f .failed) (eqb (f .allowed) 0) off)
+  not-ended =
+      or-left (f .ended) (f .unread) (or-left (f .ended || f .unread) (f .failed)
+      (or-left ((f .ended || f .unread) || f .failed) (eqb (f .allowed) 0) off))
 
   pub some-allowed : 0 < f .allowed
-  some-allowed = omega (arith, eqb-false (f .allowed) 0 (or-right (f .ended || f .failed) (eqb (f .allowed) 0) off))
+  some-allowed = omega (arith, eqb-false (f .allowed) 0 (or-right ((f .ended || f .unread) || f .failed) (eqb (f .allowed) 0) off))
 
 -- ---- the end
 pub streamed : (f : Flow) → Along f → isOver f ≡ true → Streamed f
@@ -186,19 +234,21 @@ streamed f a over = record {
   input = a .input;
   output = a .output;
   end-read = a .end-read;
+  read-failed = a .read-failed;
   write-failed = a .write-failed;
-  over = λ e g. omega (arith, a .made, used-up e g);
-  all = λ went e. sym (all-written e);
+  over = λ e u g. omega (arith, a .made, used-up e u g);
+  all = λ e went. sym (all-written e);
   begins = λ more last. (stillLeft f more, a .rewrites more last);
 }
   where
-    third : (x y z : Bool) → (x || y) || z ≡ true → x ≡ false → y ≡ false → z ≡ true
-    third true y z h e g = absurd (true≢false e)
-    third false true z h e g = absurd (true≢false g)
-    third false false z h e g = h
+    fourth : (x y z w : Bool) → ((x || y) || z) || w ≡ true → x ≡ false → y ≡ false → z ≡ false → w ≡ true
+    fourth true y z w h e g k = absurd (true≢false e)
+    fourth false true z w h e g k = absurd (true≢false g)
+    fourth false false true w h e g k = absurd (true≢false k)
+    fourth false false false w h e g k = h
 
-    used-up : f .ended ≡ false → f .failed ≡ false → f .allowed ≡ 0
-    used-up e g = eqb-true (f .allowed) 0 (third (f .ended) (f .failed) (eqb (f .allowed) 0) over e g)
+    used-up : f .ended ≡ false → f .unread ≡ false → f .failed ≡ false → f .allowed ≡ 0
+    used-up e u g = eqb-true (f .allowed) 0 (fourth (f .ended) (f .unread) (f .failed) (eqb (f .allowed) 0) over e u g)
 
     all-written : f .ended ≡ true → rewritten (bytesOf (a .reads)) ≡ handedOver (a .writes)
     all-written e =

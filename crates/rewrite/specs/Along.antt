@@ -7,7 +7,7 @@ use lib.Dec.{eqb}
 use lib.ListN.{length}
 use Rattle.model.specs.Rewrite.{rewritten}
 use Rattle.console.specs.Trace.{noInput, noOutput}
-use Rattle.console.specs.History.{Read, tookAll, bytesOf, Write, wroteAll, handedOver, EndRead, WriteFailed}
+use Rattle.console.specs.History.{Read, tookAll, bytesOf, Write, wroteAll, handedOver, EndRead, ReadFailed, WriteFailed}
 use Rattle.rewriting.specs.declared.Held.{Held}
 use Rattle.rewriting.specs.Given as Rewriting
 use Rattle.rewriting.specs.Given.{heldBytes, Handed, manyBytes}
@@ -21,6 +21,7 @@ startingFlow = record {
   held = Rewriting.starting;
   allowed = mostReads;
   ended = false;
+  unread = false;
   failed = false;
   input = noInput;
   output = noOutput;
@@ -43,6 +44,7 @@ pub record Along (f : Flow) : Type 0 where
   pub input : f .input ≡ tookAll noInput reads
   pub output : f .output ≡ wroteAll noOutput writes
   pub end-read : f .ended ≡ true → EndRead reads
+  pub read-failed : f .unread ≡ true → ReadFailed reads
   pub write-failed : f .failed ≡ true → WriteFailed writes
   -- what was written, and what is still to be
   pub rewrites : (more : List ℕ) → (f .ended ≡ true → more ≡ [])

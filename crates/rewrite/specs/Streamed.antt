@@ -6,7 +6,7 @@ use Prim.Native.Nat.{ℕ}
 use lib.ListN.{length}
 use Rattle.model.specs.Rewrite.{rewritten}
 use Rattle.console.specs.Trace.{noInput, noOutput}
-use Rattle.console.specs.History.{Read, tookAll, bytesOf, Write, wroteAll, handedOver, EndRead, WriteFailed}
+use Rattle.console.specs.History.{Read, tookAll, bytesOf, Write, wroteAll, handedOver, EndRead, ReadFailed, WriteFailed}
 use Rattle.rewrite.specs.declared.Flow.{Flow}
 
 -- how many reads are made at most
@@ -20,13 +20,14 @@ pub record Streamed (f : Flow) : Type 0 where
   -- these reads and these writes were made, in this order
   pub input : f .input ≡ tookAll noInput reads
   pub output : f .output ≡ wroteAll noOutput writes
-  -- it says that the input has ended only where a read met the end, and that a write failed only where one did
+  -- it says that the input has ended only where a read met the end, and that a read or a write failed only where one did
   pub end-read : f .ended ≡ true → EndRead reads
+  pub read-failed : f .unread ≡ true → ReadFailed reads
   pub write-failed : f .failed ≡ true → WriteFailed writes
-  -- it stops where it says one of both, else only after the most reads
-  pub over : f .ended ≡ false → f .failed ≡ false → length reads ≡ mostReads
-  -- Where no write failed and the input has ended, what was written is what is left of what was read.
-  pub all : f .failed ≡ false → f .ended ≡ true → handedOver writes ≡ rewritten (bytesOf reads)
+  -- it stops where it says one of these, else only after the most reads
+  pub over : f .ended ≡ false → f .unread ≡ false → f .failed ≡ false → length reads ≡ mostReads
+  -- Where the input has ended and no write failed, what was written is what is left of what was read.
+  pub all : f .ended ≡ true → f .failed ≡ false → handedOver writes ≡ rewritten (bytesOf reads)
   -- Else it is how that begins, whatever may follow what was read; nothing does after the end.
   pub begins : (more : List ℕ) → (f .ended ≡ true → more ≡ [])
       → (later : List ℕ) × (rewritten (bytesOf reads ++ more) ≡ handedOver writes ++ later)

@@ -45,11 +45,11 @@ turn-requires c κs =
     (i .2, not-ended (l .flow) off, some-allowed (l .flow) off, i .0, i .1)
 
 loop-less : tie.Need-loop-less Inv-loop μ-loop
-loop-less c = c .before .before .before .before .turn .ensures .fewer
+loop-less c = c .before .before .before .before .before .turn .ensures .fewer
 
 loop-again : tie.Need-loop-again Inv-loop μ-loop
 loop-again c =
-    let t = c .before .before .before .before in
+    let t = c .before .before .before .before .before in
     let i = t .before .before .before .before .loop .inv in
     (t .turn .kept .1 .0 ∙ i .0, t .turn .kept .1 .1 .0 ∙ i .1, t .turn .ensures .along, refl)
 
