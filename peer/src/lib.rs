@@ -5,6 +5,7 @@
 pub mod bounds;
 pub mod command;
 pub mod compare;
+pub mod failing;
 pub mod field;
 pub mod finish;
 pub mod follow;

@@ -1,16 +1,18 @@
 //! The second implementation's commands. Exit status 0 also after a run's refusal; 1 for an escape or a difference,
 //! 2 for a bad command line or a failing read or write.
 
+use std::fmt::Display;
 use std::process::ExitCode;
 
 use peer::command::{failure, input, output, status, Done};
-use peer::compare::{compare, Failure, Task, MOTION, REWRITE};
+use peer::compare::{compare, Failure, MOTION, REWRITE};
 use peer::workload::WORKLOADS;
-use peer::{follow, generate, rewrite, text};
+use peer::{failing, follow, generate, rewrite, text};
 
 const MAX_MOTIONS: u64 = 65_536;
 const FILES: u64 = 4_000;
 const FILES_TO_REWRITE: u64 = 1_200;
+const FILES_TO_FAIL: u64 = 200;
 
 const USAGE: &str = "usage:
   peer motion < run                    the lines of document 01's program
@@ -24,6 +26,8 @@ const USAGE: &str = "usage:
                                        status 1, and the file, at the first difference
   peer compare-rewrite PROGRAM [WORD..] [--files N] [--seed S]
                                        the same for a program that rewrites (1,200 files if not said)
+  peer failing motion|rewrite PROGRAM [WORD..] [--files N] [--seed S]
+                                       the program with reads and writes that fail, on N generated files (200 if not said)
 ";
 
 fn main() -> ExitCode {
@@ -36,8 +40,18 @@ fn main() -> ExitCode {
         ["rewrite"] => input().and_then(|bytes| output(&rewrite::rewrite(&bytes))),
         ["generate"] => output(kinds().as_bytes()),
         ["generate", kind, seed] => generate(kind, seed),
-        ["compare", words @ ..] => compared(&MOTION, FILES, words),
-        ["compare-rewrite", words @ ..] => compared(&REWRITE, FILES_TO_REWRITE, words),
+        ["compare", words @ ..] => held(FILES, words, |program, files, seed| compare(&MOTION, program, files, seed)),
+        ["compare-rewrite", words @ ..] => {
+            held(FILES_TO_REWRITE, words, |program, files, seed| compare(&REWRITE, program, files, seed))
+        }
+        ["failing", name, words @ ..] => {
+            match [&failing::MOTION, &failing::REWRITE].into_iter().find(|s| s.name == *name) {
+                Some(subject) => {
+                    held(FILES_TO_FAIL, words, |program, files, seed| failing::failing(subject, program, files, seed))
+                }
+                None => Err(failure(2, USAGE)),
+            }
+        }
         ["workload"] => output(workloads().as_bytes()),
         ["workload", name] => workload(name),
         ["help" | "--help" | "-h"] => output(USAGE.as_bytes()),
@@ -67,7 +81,8 @@ fn generate(name: &str, seed: &str) -> Done {
     }
 }
 
-fn compared(task: &Task, files: u64, words: &[&str]) -> Done {
+/// A program by its words, held against generated files by their number and first seed.
+fn held<T: Display>(files: u64, words: &[&str], hold: impl Fn(Vec<String>, usize, u64) -> Result<T, Failure>) -> Done {
     let (program, mut options) =
         words.split_at(words.iter().position(|word| word.starts_with("--")).unwrap_or(words.len()));
     let (mut files, mut seed) = (files, 1);
@@ -83,7 +98,7 @@ fn compared(task: &Task, files: u64, words: &[&str]) -> Done {
         return Err(failure(2, USAGE));
     }
     let program = program.iter().map(|word| word.to_string()).collect();
-    match compare(task, program, files as usize, seed) {
+    match hold(program, files as usize, seed) {
         Ok(tally) => output(format!("{tally}\n").as_bytes()),
         Err(Failure::Difference(what)) => Err(failure(1, &format!("difference: {what}\n"))),
         Err(Failure::Run(error)) => Err(failure(2, &format!("cannot run the program: {error}\n"))),

@@ -5,6 +5,7 @@ mod common;
 mod comparing;
 mod document01;
 mod examples;
+mod failing;
 mod following;
 mod generator;
 mod hulls;
