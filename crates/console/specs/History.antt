@@ -1,7 +1,7 @@
 -- Some reads and some writes, one after the other, by the calls that made them.
 use mathlib.Core.Path.{_≡_}
 use mathlib.Core.List.{List, [], _∷_, _++_}
-use mathlib.Core.Bool.{Bool, true, false}
+use mathlib.Core.Bool.{Bool, true, false, not, _||_}
 use Prim.Native.Nat.{ℕ, _<_}
 use Rattle.console.specs.declared.Input.{Input}
 use Rattle.console.specs.declared.Output.{Output}
@@ -37,6 +37,15 @@ wroteAll o (w ∷ ws) = wroteAll (wrote o (w .bytes) (w .whole)) ws
 unfoldable pub handedOver : List Write → List ℕ
 handedOver [] = []
 handedOver (w ∷ ws) = w .bytes ++ handedOver ws
+
+-- whether one of them failed
+unfoldable pub someReadFailed : List Read → Bool
+someReadFailed [] = false
+someReadFailed (r ∷ rs) = r .failed || someReadFailed rs
+
+unfoldable pub someWriteFailed : List Write → Bool
+someWriteFailed [] = false
+someWriteFailed (w ∷ ws) = not (w .whole) || someWriteFailed ws
 
 -- the last read asked for bytes and got none, and did not fail
 pub record EndRead (rs : List Read) : Type 0 where

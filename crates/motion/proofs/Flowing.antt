@@ -18,8 +18,8 @@ use Rattle.console.specs.declared.Input.{Input}
 use Rattle.console.specs.declared.Filled.{Filled}
 use Rattle.console.specs.declared.Output.{Output}
 use Rattle.console.specs.Trace.{noInput, noOutput, took, wrote, FilledFrom}
-use Rattle.console.specs.History.{Read, tookAll, bytesOf, Write, wroteAll, handedOver}
-use Rattle.console.proofs.Traces.{took-more, bytes-more, met-end, met-failure, wrote-more, handed-more, not-whole}
+use Rattle.console.specs.History.{Read, tookAll, bytesOf, Write, wroteAll, handedOver, someReadFailed, someWriteFailed}
+use Rattle.console.proofs.Traces.{took-more, bytes-more, reads-failed, met-end, met-failure, wrote-more, handed-more, writes-failed, not-whole}
 use Rattle.feeding.specs.declared.Progress.{Progress}
 use Rattle.feeding.specs.declared.Fed.{Fed}
 use Rattle.feeding.specs.Fed as Feeding
@@ -44,7 +44,7 @@ flow-begun e g h = ap₃ e g h
     ap₃ e g h = rw (e, g, h)
 
 pub along-begins : (buffer : List ℕ) → Along startingFlow buffer
-unfolding tookAll wroteAll bytesOf handedOver
+unfolding tookAll wroteAll bytesOf handedOver someReadFailed someWriteFailed
 along-begins buffer = record {
   reached = starting-reached;
   placed = λ e. omega arith;
@@ -53,6 +53,8 @@ along-begins buffer = record {
   writes = [];
   input = refl;
   output = refl;
+  unread-is = refl;
+  failed-is = refl;
   end-read = λ e. absurd (true≢false (sym e));
   read-failed = λ e. absurd (true≢false (sym e));
   stopped = λ e. absurd (true≢false (sym e));
@@ -66,6 +68,7 @@ pub no-read : (f : Flow) (buffer : List ℕ) → Along f buffer → {b : Bool} �
 no-read f buffer a e h = record {
   along = a;
   progress = refl;
+  failed = refl;
   no-less = omega arith;
   more = λ _ n. absurd (true≢false (sym h ∙ ap (f .ended ||_) e ∙ n));
 }
@@ -78,7 +81,7 @@ room-left held buffer B h e l k =
 
 -- B was filled after what is held, and P follows it
 module _ (f : Flow) (buffer B P : List ℕ) (a : Along f buffer) (on : f .ended ≡ false) (going : f .progress .done ≡ false)
-    (brief : cut (heldBytes f buffer) ≡ true) (r : Filled) (filled : FilledFrom (f .input) B r) (some : 0 < length B) where
+    (good : f .unread ≡ false) (brief : cut (heldBytes f buffer) ≡ true) (r : Filled) (filled : FilledFrom (f .input) B r) (some : 0 < length B) where
   abbrev bytes : List ℕ
   bytes = take (r .count) B
 
@@ -137,6 +140,8 @@ module _ (f : Flow) (buffer B P : List ℕ) (a : Along f buffer) (on : f .ended 
       writes = a .writes;
       input = filled .next ∙ ap (λ i. took i (length B) bytes (r .failed)) (a .input) ∙ sym (took-more noInput (a .reads) this);
       output = a .output;
+      unread-is = sym (reads-failed (a .reads) this ∙ ap (_|| r .failed) (sym (a .unread-is) ∙ good));
+      failed-is = a .failed-is;
       end-read = λ e. let h = both (eqb (r .count) 0) (r .failed) e in met-end (a .reads) B (r .count) (r .failed) some (h .0) (h .1);
       read-failed = λ e. met-failure (a .reads) B (r .count) (r .failed) (filled .none e) e;
       stopped = λ e. record {
@@ -148,8 +153,9 @@ module _ (f : Flow) (buffer B P : List ℕ) (a : Along f buffer) (on : f .ended 
       prints = read-prints;
     };
     progress = refl;
+    failed = refl;
     no-less = omega arith;
-    more = λ good n. omega (arith, eqb-false (r .count) 0 (some-came (eqb (r .count) 0) (r .failed) (or-left (next .ended) _ n) good));
+    more = λ came n. omega (arith, eqb-false (r .count) 0 (some-came (eqb (r .count) 0) (r .failed) (or-left (next .ended) _ n) came));
   }
     where
       both : (x y : Bool) → x && not y ≡ true → (x ≡ true) × (y ≡ false)
@@ -197,7 +203,8 @@ module _ (f g : Flow) (buffer : List ℕ) (a : Along g buffer) (room : ℕ) {out
   written-within = omega (arith, d .text .ends, d .text .short)
 
   module _ (o : Output) (whole : Bool) (sent : o ≡ wrote (g .output) (take (r .written) out') whole) (after : List ℕ)
-      (moved : take (g .held - r .used) after ≡ drop (r .used) (heldBytes g buffer)) (same : length after ≡ length buffer) where
+      (moved : take (g .held - r .used) after ≡ drop (r .used) (heldBytes g buffer)) (same : length after ≡ length buffer)
+      (came : g .unread ≡ false) (went : g .failed ≡ false) where
     abbrev then : Flow
     then = record {
       progress = r .progress;
@@ -231,6 +238,8 @@ module _ (f g : Flow) (buffer : List ℕ) (a : Along g buffer) (room : ℕ) {out
       writes = a .writes ++ (now-written ∷ []);
       input = a .input;
       output = sent ∙ ap₂ (λ x y. wrote x y whole) (a .output) text-written ∙ sym (wrote-more noOutput (a .writes) now-written);
+      unread-is = sym came ∙ a .unread-is;
+      failed-is = sym (writes-failed (a .writes) now-written ∙ ap (_|| not whole) (sym (a .failed-is) ∙ went));
       end-read = a .end-read;
       read-failed = λ e. absurd (true≢false (sym e));
       stopped = λ e. absurd (true≢false (sym e));
@@ -240,7 +249,7 @@ module _ (f g : Flow) (buffer : List ℕ) (a : Along g buffer) (room : ℕ) {out
 
     -- fewer turns can follow
     module _ (refilled : Refilled f g buffer) (on : f .progress .done ≡ false) (large : longestLine ≤ room)
-        (short : length buffer ≤ 131072) (good : f .unread ≡ false) (came : g .unread ≡ false) where
+        (short : length buffer ≤ 131072) (good : f .unread ≡ false) where
       abbrev p : Progress
       p = g .progress
 
@@ -300,6 +309,9 @@ module _ (over : Bool) (f : Flow) (e : over ≡ isOver f) (h : not over ≡ true
   pub not-done : f .progress .done ≡ false
   not-done = or-right (f .failed || f .unread) (f .progress .done) (sym e ∙ not-true over h)
 
+  pub not-failed : f .failed ≡ false
+  not-failed = or-left (f .failed) (f .unread) (or-left (f .failed || f .unread) (f .progress .done) (sym e ∙ not-true over h))
+
   pub not-unread : f .unread ≡ false
   not-unread = or-right (f .failed) (f .unread) (or-left (f .failed || f .unread) (f .progress .done) (sym e ∙ not-true over h))
 
@@ -329,9 +341,11 @@ streamed f buffer a over = record {
   writes = a .writes;
   input = a .input;
   output = a .output;
-  end-read = a .end-read;
+  unread-is = a .unread-is;
+  failed-is = a .failed-is;
   read-failed = a .read-failed;
   write-failed = a .write-failed;
+  end-read = a .end-read;
   all = λ good went more last.
       sym (a .prints more last ∙ nothing-left f (heldBytes f buffer ++ more) (a .writes) (third (f .failed) (f .unread) _ over went good));
   unclosed = λ e. left-open f buffer a (a .reads) (a .writes) (a .prints [] (λ _. refl)) (a .stopped e);

@@ -7,7 +7,7 @@ use lib.ListN.{length, take}
 use Rattle.model.specs.Run.{cut}
 use Rattle.model.specs.Text.{printed}
 use Rattle.console.specs.Trace.{noInput, noOutput}
-use Rattle.console.specs.History.{Read, tookAll, bytesOf, Write, wroteAll, handedOver, EndRead, ReadFailed, WriteFailed}
+use Rattle.console.specs.History.{Read, tookAll, bytesOf, Write, wroteAll, handedOver, someReadFailed, someWriteFailed, EndRead, ReadFailed, WriteFailed}
 use Rattle.feeding.specs.Fed as Feeding
 use Rattle.feeding.specs.Reached.{Reached, Placed, remaining, turnsLeft}
 use Rattle.motion.specs.declared.Flow.{Flow}
@@ -43,6 +43,8 @@ pub record Along (f : Flow) (buffer : List ℕ) : Type 0 where
   pub writes : List Write
   pub input : f .input ≡ tookAll noInput reads
   pub output : f .output ≡ wroteAll noOutput writes
+  pub unread-is : f .unread ≡ someReadFailed reads
+  pub failed-is : f .failed ≡ someWriteFailed writes
   pub end-read : f .ended ≡ true → EndRead reads
   pub read-failed : f .unread ≡ true → ReadFailed reads
   pub stopped : f .unread ≡ true → Stopped f buffer
@@ -55,6 +57,7 @@ pub record Along (f : Flow) (buffer : List ℕ) : Type 0 where
 pub record Refilled (f r : Flow) (after : List ℕ) : Type 0 where
   pub along : Along r after
   pub progress : r .progress ≡ f .progress
+  pub failed : r .failed ≡ f .failed
   pub no-less : f .held ≤ r .held
   pub more : r .unread ≡ false → r .ended || not (cut (heldBytes r after)) ≡ false → f .held < r .held
 

@@ -5,7 +5,7 @@ use mathlib.Core.Bool.{true, false}
 use Prim.Native.Nat.{ℕ}
 use Rattle.model.specs.Text.{refusalLine, foldedLine, endLine, printed}
 use Rattle.console.specs.Trace.{noInput, noOutput}
-use Rattle.console.specs.History.{Read, tookAll, bytesOf, Write, wroteAll, handedOver, EndRead, ReadFailed, WriteFailed}
+use Rattle.console.specs.History.{Read, tookAll, bytesOf, Write, wroteAll, handedOver, someReadFailed, someWriteFailed, EndRead, ReadFailed, WriteFailed}
 use Rattle.motion.specs.declared.Flow.{Flow}
 
 -- the lines that close an output: the totals and the end of a run, or a refusal
@@ -26,10 +26,13 @@ pub record Streamed (f : Flow) : Type 0 where
   -- these reads and these writes were made, in this order
   pub input : f .input ≡ tookAll noInput reads
   pub output : f .output ≡ wroteAll noOutput writes
-  -- it says that the input has ended only where a read met the end, and that a read or a write failed only where one did
-  pub end-read : f .ended ≡ true → EndRead reads
+  -- it says that a read or a write failed exactly where one did, which is then the last, and that the input has ended only where a read met
+  -- the end
+  pub unread-is : f .unread ≡ someReadFailed reads
+  pub failed-is : f .failed ≡ someWriteFailed writes
   pub read-failed : f .unread ≡ true → ReadFailed reads
   pub write-failed : f .failed ≡ true → WriteFailed writes
+  pub end-read : f .ended ≡ true → EndRead reads
   -- Where neither failed, what was written is what is printed for what was read, whatever may follow that; nothing does after the end.
   pub all : f .unread ≡ false → f .failed ≡ false → (more : List ℕ) → (f .ended ≡ true → more ≡ [])
       → handedOver writes ≡ printed (bytesOf reads ++ more)

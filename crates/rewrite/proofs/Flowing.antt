@@ -15,8 +15,8 @@ use Rattle.console.specs.declared.Input.{Input}
 use Rattle.console.specs.declared.Filled.{Filled}
 use Rattle.console.specs.declared.Output.{Output}
 use Rattle.console.specs.Trace.{noInput, noOutput, took, wrote, FilledFrom}
-use Rattle.console.specs.History.{Read, tookAll, bytesOf, Write, wroteAll, handedOver}
-use Rattle.console.proofs.Traces.{took-more, bytes-more, met-end, met-failure, wrote-more, handed-more, not-whole}
+use Rattle.console.specs.History.{Read, tookAll, bytesOf, Write, wroteAll, handedOver, someReadFailed, someWriteFailed}
+use Rattle.console.proofs.Traces.{took-more, bytes-more, reads-failed, met-end, met-failure, wrote-more, handed-more, writes-failed, not-whole}
 use Rattle.rewriting.specs.declared.Held.{Held}
 use Rattle.rewriting.specs.declared.Given.{Given}
 use Rattle.rewriting.specs.Given as Rewriting
@@ -41,7 +41,7 @@ flow-begun e g h = ap₃ e g h
     ap₃ e g h = rw (e, g, h)
 
 along-begins : Along startingFlow
-unfolding tookAll wroteAll bytesOf handedOver
+unfolding tookAll wroteAll bytesOf handedOver someReadFailed someWriteFailed
 along-begins = record {
   reached = starting-reached;
   reads = [];
@@ -49,6 +49,8 @@ along-begins = record {
   made = refl;
   input = refl;
   output = refl;
+  unread-is = refl;
+  failed-is = refl;
   end-read = λ e. absurd (true≢false (sym e));
   read-failed = λ e. absurd (true≢false (sym e));
   write-failed = λ e. absurd (true≢false (sym e));
@@ -106,7 +108,8 @@ module _ (h : Held) (came : List ℕ) where
 
 -- ---- a turn
 -- B was filled
-module _ (f : Flow) (B : List ℕ) (a : Along f) (on : f .ended ≡ false) (r : Filled) (filled : FilledFrom (f .input) B r) where
+module _ (f : Flow) (B : List ℕ) (a : Along f) (on : f .ended ≡ false) (good : f .unread ≡ false) (went : f .failed ≡ false) (r : Filled)
+    (filled : FilledFrom (f .input) B r) where
   abbrev came : List ℕ
   came = take (r .count) B
 
@@ -116,6 +119,9 @@ module _ (f : Flow) (B : List ℕ) (a : Along f) (on : f .ended ≡ false) (r : 
   input-is : r .input ≡ tookAll noInput (a .reads ++ (this ∷ []))
   input-is =
       filled .next ∙ ap (λ i. took i (length B) came (r .failed)) (a .input) ∙ sym (took-more noInput (a .reads) this)
+
+  failed-now : someReadFailed (a .reads ++ (this ∷ [])) ≡ r .failed
+  failed-now = reads-failed (a .reads) this ∙ ap (_|| r .failed) (sym (a .unread-is) ∙ good)
 
   -- what is left of what was read before and now
   read-rewrites : (more : List ℕ)
@@ -148,6 +154,8 @@ module _ (f : Flow) (B : List ℕ) (a : Along f) (on : f .ended ≡ false) (r : 
         made = omega (arith, length-append (a .reads) (this ∷ []), a .made);
         input = input-is;
         output = a .output;
+        unread-is = sym (failed-now ∙ bad);
+        failed-is = sym went ∙ a .failed-is;
         end-read = λ e. absurd (true≢false (sym e));
         read-failed = λ _. met-failure (a .reads) B (r .count) (r .failed) (filled .none bad) bad;
         write-failed = λ e. absurd (true≢false (sym e));
@@ -158,7 +166,7 @@ module _ (f : Flow) (B : List ℕ) (a : Along f) (on : f .ended ≡ false) (r : 
     }
 
   -- else what it brought was passed, and the text handed over
-  module _ (good : r .failed ≡ false) (some : 0 < length B) {most : ℕ} {out out' : List ℕ} (g : Given)
+  module _ (came-well : r .failed ≡ false) (some : 0 < length B) {most : ℕ} {out out' : List ℕ} (g : Given)
       (d : Done most (passed (f .held) came) out out' 0 g) (o : Output) (whole : Bool)
       (sent : o ≡ wrote (f .output) (take (g .written) out') whole) where
     abbrev text : List ℕ
@@ -201,7 +209,9 @@ module _ (f : Flow) (B : List ℕ) (a : Along f) (on : f .ended ≡ false) (r : 
         made = omega (arith, length-append (a .reads) (this ∷ []), a .made);
         input = input-is;
         output = sent ∙ ap₂ (λ x y. wrote x y whole) (a .output) (d .text .text) ∙ sym (wrote-more noOutput (a .writes) now-written);
-        end-read = λ e. met-end (a .reads) B (r .count) (r .failed) some e good;
+        unread-is = sym (failed-now ∙ came-well);
+        failed-is = sym (writes-failed (a .writes) now-written ∙ ap (_|| not whole) (sym (a .failed-is) ∙ went));
+        end-read = λ e. met-end (a .reads) B (r .count) (r .failed) some e came-well;
         read-failed = λ e. absurd (true≢false (sym e));
         write-failed = not-whole (a .writes) text whole;
         rewrites = turn-rewrites;
@@ -223,6 +233,15 @@ module _ (f : Flow) (off : isOver f ≡ false) where
       or-left (f .ended) (f .unread) (or-left (f .ended || f .unread) (f .failed)
       (or-left ((f .ended || f .unread) || f .failed) (eqb (f .allowed) 0) off))
 
+  pub not-unread : f .unread ≡ false
+  not-unread =
+      or-right (f .ended) (f .unread) (or-left (f .ended || f .unread) (f .failed)
+      (or-left ((f .ended || f .unread) || f .failed) (eqb (f .allowed) 0) off))
+
+  pub not-failed : f .failed ≡ false
+  not-failed =
+      or-right (f .ended || f .unread) (f .failed) (or-left ((f .ended || f .unread) || f .failed) (eqb (f .allowed) 0) off)
+
   pub some-allowed : 0 < f .allowed
   some-allowed = omega (arith, eqb-false (f .allowed) 0 (or-right ((f .ended || f .unread) || f .failed) (eqb (f .allowed) 0) off))
 
@@ -233,9 +252,11 @@ streamed f a over = record {
   writes = a .writes;
   input = a .input;
   output = a .output;
-  end-read = a .end-read;
+  unread-is = a .unread-is;
+  failed-is = a .failed-is;
   read-failed = a .read-failed;
   write-failed = a .write-failed;
+  end-read = a .end-read;
   over = λ e u g. omega (arith, a .made, used-up e u g);
   all = λ e went. sym (all-written e);
   begins = λ more last. (stillLeft f more, a .rewrites more last);

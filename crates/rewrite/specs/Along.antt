@@ -7,7 +7,7 @@ use lib.Dec.{eqb}
 use lib.ListN.{length}
 use Rattle.model.specs.Rewrite.{rewritten}
 use Rattle.console.specs.Trace.{noInput, noOutput}
-use Rattle.console.specs.History.{Read, tookAll, bytesOf, Write, wroteAll, handedOver, EndRead, ReadFailed, WriteFailed}
+use Rattle.console.specs.History.{Read, tookAll, bytesOf, Write, wroteAll, handedOver, someReadFailed, someWriteFailed, EndRead, ReadFailed, WriteFailed}
 use Rattle.rewriting.specs.declared.Held.{Held}
 use Rattle.rewriting.specs.Given as Rewriting
 use Rattle.rewriting.specs.Given.{heldBytes, Handed, manyBytes}
@@ -43,6 +43,8 @@ pub record Along (f : Flow) : Type 0 where
   pub made : length reads + f .allowed ≡ mostReads
   pub input : f .input ≡ tookAll noInput reads
   pub output : f .output ≡ wroteAll noOutput writes
+  pub unread-is : f .unread ≡ someReadFailed reads
+  pub failed-is : f .failed ≡ someWriteFailed writes
   pub end-read : f .ended ≡ true → EndRead reads
   pub read-failed : f .unread ≡ true → ReadFailed reads
   pub write-failed : f .failed ≡ true → WriteFailed writes

@@ -83,7 +83,8 @@ fn begin() -> Flow
 
 // Reads once, and writes what is left of what came; nothing where the read failed.
 fn turn(f: Flow, buf: &mut [u8], out: &mut [u8]) -> Flow
-    requires { ⌜ Along f × (f .ended ≡ false) × (0 < f .allowed) × (length (now buf) ≡ 65536) × (length (now out) ≡ 65564) ⌝ }
+    requires { ⌜ Along f × (f .ended ≡ false) × (0 < f .allowed) × (length (now buf) ≡ 65536) × (length (now out) ≡ 65564)
+        × (f .unread ≡ false) × (f .failed ≡ false) ⌝ }
     ensures { λ r. ⌜ TurnMade f r ⌝ }
 {
     let before = f.input;

@@ -3,7 +3,7 @@ use mathlib.Core.Path.{_≡_, refl, sym, _∙_}
 use lib.ListN.{length}
 use borrow.Author.Tests.{not-true, not-false}
 use Rattle.rewrite.specs.Along.{Along}
-use Rattle.rewrite.proofs.Flowing.{isOver, starts, not-ended, some-allowed, streamed}
+use Rattle.rewrite.proofs.Flowing.{isOver, starts, not-ended, not-unread, not-failed, some-allowed, streamed}
 use borrow.Author.Needs.{needs}
 use Rattle.rewrite.proofs.run.Statement.{statement}
 use Rattle.rewrite.proofs.run.Tie as tie
@@ -42,7 +42,7 @@ turn-requires c κs =
     let l = t .before .loop in
     let i = l .inv in
     let off = sym (i .3) ∙ not-true (l .over) (t .loop-test .taken) in
-    (i .2, not-ended (l .flow) off, some-allowed (l .flow) off, i .0, i .1)
+    (i .2, not-ended (l .flow) off, some-allowed (l .flow) off, i .0, i .1, not-unread (l .flow) off, not-failed (l .flow) off)
 
 loop-less : tie.Need-loop-less Inv-loop μ-loop
 loop-less c = c .before .before .before .before .before .turn .ensures .fewer

@@ -54,7 +54,7 @@ returns : tie.Need-returns
 returns c =
     let k = c .before .before .before .before .before .before .before in
     let s = started k in
-    turn-stopped (s .args .f) (k .fill .last .1 .0) (s .pre .0) (s .pre .1) (k .fill .result) (k .fill .ensures) (c .before .if1 .taken)
+    turn-stopped (s .args .f) (k .fill .last .1 .0) (s .pre .0) (s .pre .1) (s .pre .5) (s .pre .6) (k .fill .result) (k .fill .ensures) (c .before .if1 .taken)
     (s .pre .2)
 
 slice-reshare-prefix-pass : tie.Need-slice-reshare-prefix-pass
@@ -96,7 +96,7 @@ returns-2 c =
     let p = e .before .before .before .before .before in
     let k = read-before (passing p) in
     let s = started k in
-    turn-done (s .args .f) (k .fill .last .1 .0) (s .pre .0) (s .pre .1) (k .fill .result) (k .fill .ensures)
+    turn-done (s .args .f) (k .fill .last .1 .0) (s .pre .0) (s .pre .1) (s .pre .5) (s .pre .6) (k .fill .result) (k .fill .ensures)
     (passing p .if1 .left) (omega (arith, k .fill .kept .1 .0, s .pre .3)) (p .pass .result) (p .pass .ensures) _
     (e .emit .result .whole) (e .emit .ensures) (s .pre .2)
 
