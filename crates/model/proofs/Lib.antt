@@ -24,6 +24,7 @@
 --     Ends, BoxPoint, SafePoint            the box holds every point; a region that the check calls safe holds none
 --     Moves, Enclosed                      each kind of field keeps every motion; demand 3, entire
 --     OldFault                             with a next identifier that doesn't rise, demand 3 is false
+--     Reached                              a motion may take any part of its limits, and goes where exact arithmetic says
 --     OldField, Kept                       the run of a rewritten file gives what the run before request A.5 gave
 pub mod Marked
 pub mod Listing
@@ -105,5 +106,6 @@ pub mod SafePoint
 pub mod Moves
 pub mod Enclosed
 pub mod OldFault
+pub mod Reached
 pub mod OldField
 pub mod Kept

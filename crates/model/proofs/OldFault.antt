@@ -106,9 +106,9 @@ allowed : Allowed picks fields
 allowed = record {
   values = λ k. within-one;
   own = λ m k. sign-within m;
-  numbers = λ m j. zero-within 1;
+  numbers = λ m j. zero-within _;
   offsets = λ m i. zero-within _;
-  blend = λ m. zero-within 1;
+  blend = λ m. zero-within _;
   coefficients = λ m e. absurd (not-ranged m e);
 }
 

@@ -17,6 +17,7 @@
 --     Marked       the table of marked cases
 --     Points       the points of a set at given factor values
 --     Motion       what a motion is, and what is claimed of every motion (demand 3)
+--     Reached      that a motion may go to its limits, and where it goes
 --     Origin       where the radii come from, and what is claimed of that
 --     Precision    how close the results are to the true points, and what is claimed of that (demand 2)
 --     Between      what is claimed of a hull
@@ -41,6 +42,7 @@ pub mod Pairs
 pub mod Marked
 pub mod Points
 pub mod Motion
+pub mod Reached
 pub mod Origin
 pub mod Precision
 pub mod Between
