@@ -23,9 +23,10 @@ use Rattle.model.specs.Run.{State, begin, kindOf, Cause, firstOf, mispla
 use Rattle.model.specs.Run.{fieldsWithin}
 use Rattle.model.specs.Library.{ofRadii}
 use Rattle.model.specs.Rewrite.{emptyDisturbance, others, together, rewritten}
-use Rattle.model.specs.OldRun.{oldCauses, oldAfter, oldRun}
+use Rattle.model.specs.OldRun.{oldCauses, oldAfter, oldRun, Kept}
 use Rattle.model.proofs.Tests.{and-true, false-or}
 use Rattle.model.proofs.Written.{words, field}
+use Rattle.model.proofs.Kept.{keeps-results}
 
 -- ---- 14
 -- a run that has the point 0 in two coordinates
@@ -112,6 +113,10 @@ unfolding fields fieldsWithin run oldRun after oldAfter withFolds folds causes o
     dropZeroTerms collectTerms insert collectInto those foldAll foldTimes keepAt longer tooWide span termSizes generatorSizes radiusOf
     sumBy tab any all emptyDisturbance others together rewritten
 stored-file = (refl, refl, refl, refl, refl)
+
+-- so what is claimed of rewritten files holds of it
+pub stored-kept : Kept stored
+stored-kept = keeps-results stored (stored-file .0)
 
 -- a damaged file: no start set; a byte too many; no radius and seven; an unknown tag; a last field that lacks a byte
 abbrev longer-body : List ℕ

@@ -8,15 +8,16 @@ use Prim.Native.Nat.{ℕ, _+_, _<_, _≤_}
 use native.Mathlib.Omega.{arith}
 use lib.ListN.{length, drop}
 use Rattle.model.specs.Set.{Zonotope}
+use Rattle.model.specs.Finish.{those}
 use Rattle.model.specs.Field.{Outcome}
-use Rattle.model.specs.Run.{State, begin, meant, firstOf, misplaced, cut}
+use Rattle.model.specs.Run.{State, begin, meant, firstOf, misplaced, cut, causes}
 use Rattle.model.specs.Run.{acceptedBy, after, outcome, run, fieldLength, firstField, fields, fieldsWithin}
 use Rattle.model.specs.Rewrite.{emptyDisturbance, others, rewritten}
 use Rattle.model.specs.OldRun.{oldCauses, oldRefusal, oldAfter, oldOutcome, oldRun, results, oldResults, numbered}
-use Rattle.model.specs.OldRun.{KeepsResults}
+use Rattle.model.specs.OldRun.{counting, KeepsResults}
 use Rattle.model.proofs.Rewritten.{emptied, fields-rewritten}
 use Rattle.model.proofs.Sound.{Sound, begin-sound, after-sound}
-use Rattle.model.proofs.OldField.{counting, accepts, went, old-left, old-answer, left, answer, old-placed, after-start, leaves-all}
+use Rattle.model.proofs.OldField.{accepts, went, old-left, old-answer, left, answer, old-placed, after-start, leaves-all}
 
 -- ---- the run over the other fields
 -- what is claimed of the fields `fs`, from an old state and a count
@@ -59,7 +60,7 @@ module _ (f : List ℕ) (fs : List (List ℕ)) (later : Stays fs) (place was : �
       let d = emptied f p in
       let q = old-placed st f (past .1) in
       let some-first = z (after-start st f d (q .0)) in
-      let as-was = leaves-all c st f h some-first d (past .0) (q .1) in
+      let as-was = leaves-all c st f h some-first d (q .1) (past .0) in
       let r = later place (was + length f) then c (subst Sound (sym as-was) h) (omega arith) (λ _. some-first) goes in
       let o : others (f ∷ fs) ≡ others fs = rw p in
       let old : oldResults was st (f ∷ fs) ≡ oldResults (was + length f) (oldAfter st f) fs = rw p in
@@ -128,7 +129,7 @@ first-stays f fs e = go (emptyDisturbance f) refl where
 
 -- so that the fields of the rewritten input are the others
 fields-stay : (input : List ℕ) → oldRun (fields input) begin .over ≡ false → fields (rewritten input) ≡ others (fields input)
-unfolding fields fieldsWithin oldRun oldAfter oldCauses firstOf misplaced cut others
+unfolding fields fieldsWithin oldRun oldAfter oldCauses causes those firstOf misplaced cut others
 fields-stay [] e = absurd (true≢false e)
 fields-stay (t ∷ b) e =
     let input = t ∷ b in

@@ -25,7 +25,7 @@
 --     Moves, Enclosed                      each kind of field keeps every motion; demand 3, entire
 --     OldFault                             with a next identifier that doesn't rise, demand 3 is false
 --     Reached                              a motion may take any part of its limits, and goes where exact arithmetic says
---     OldField, Kept                       the run of a rewritten file gives what the run before request A.5 gave
+--     OldField, Kept                       the run before request A.5 by its fields; the run of a rewritten file gives what it gave
 pub mod Marked
 pub mod Listing
 pub mod Written

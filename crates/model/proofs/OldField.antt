@@ -1,33 +1,36 @@
--- One field in the old run (specs/OldRun.antt) and in the new one: an empty disturbance left all but the count as it was, and any other
--- field that was accepted is accepted still, also with a smaller count.
-use mathlib.Core.Path.{_≡_, refl, sym, _∙_, ap, ap₂}
+-- One field in the old run (specs/OldRun.antt) and in the new one: where it isn't refused with 14 both do the same, also with a smaller
+-- count where it is accepted; an empty disturbance that is refused with 14 was accepted and left all but the count as it was.
+use mathlib.Core.Path.{_≡_, refl, sym, _∙_, ap, ap₂, subst}
 use mathlib.Core.List.{List, [], _∷_}
-use mathlib.Core.Bool.{Bool, true, false, not, cond, true≢false}
-use mathlib.Core.Option.{Option, none, some}
+use mathlib.Core.Bool.{Bool, true, false, not, cond, _&&_, true≢false}
+use mathlib.Core.Option.{Option, none, some, Option·none-ne-some, Option·getD}
 use Prim.Native.Nat.{ℕ, zero, suc, _+_, _*_, _<_, _≤_}
 use native.Mathlib.Omega.{arith}
 use lib.Dec.{eqb}
-use lib.ListN.{length}
-use borrow.Author.Tests.{ltb-false, le-ltb, eqb-true, not-false}
-use Rattle.whole.specs.Tab.{all, tab-cong, tab-getD}
+use lib.ListN.{length, take, drop}
+use borrow.Author.Tests.{ltb-false, le-ltb, eqb-true, eqb-false, not-false}
+use Rattle.whole.specs.Tab.{any, all, tab-cong, tab-getD}
 use Rattle.rational.specs.Sum as Sum
 use Rattle.rational.specs.Sum.{All, more}
 use Rattle.model.specs.Limits.{maxDimension, lastField}
 use Rattle.model.specs.Set.{Zonotope, longer, plusℕ}
-use Rattle.model.specs.Operations.{disturb}
+use Rattle.model.specs.Valid.{tooWide}
+use Rattle.model.specs.Finish.{those}
+use Rattle.model.specs.Operations.{disturb, box}
 use Rattle.model.specs.Body.{dimension, givenRadii}
 use Rattle.model.specs.Field.{Kind, start, step, disturbance, independent, tied, reduction, check, hull, rangedStep, unknown}
-use Rattle.model.specs.Field.{badDimension, allZero, Meaning, meaning}
-use Rattle.model.specs.Run.{State, current, tag, body, kindOf, meant, Cause, firstOf, misplaced, cut, causes, refusal}
-use Rattle.model.specs.Run.{withFolds, acceptedBy, refusedAt, after, outcome}
+use Rattle.model.specs.Field.{badDimension, allZero, inside, refused, skipped, Meaning, meaning}
+use Rattle.model.specs.Run.{State, current, tag, body, kindOf, meant, Cause, _if_, firstOf, misplaced, cut, causes, refusal}
+use Rattle.model.specs.Run.{withFolds, acceptedBy, refusedAt, after, outcome, run}
 use Rattle.model.specs.Rewrite.{emptyDisturbance}
-use Rattle.model.specs.OldRun.{oldCauses, oldRefusal, oldAfter, oldOutcome}
-use Rattle.model.proofs.Tests.{and-true, no-cause}
+use Rattle.model.specs.OldRun.{oldCauses, oldRefusal, oldAfter, oldOutcome, oldRun, AsNow, OldOtherwise, OnlyEmpty, counting}
+use Rattle.model.specs.OldRun.{OldRunOtherwise, OnlyCounted, OldEmpty}
+use Rattle.model.proofs.Tests.{or-false, and-true, no-cause, not-answered, passed-before}
 use Rattle.model.proofs.LastLine.{no-cause as not-refused}
 use Rattle.model.proofs.Accepted.{same, given-radii, first-starts}
 use Rattle.model.proofs.ByKind.{starts}
-use Rattle.model.proofs.Rewritten.{Emptied}
-use Rattle.model.proofs.Sound.{Sound}
+use Rattle.model.proofs.Rewritten.{Emptied, emptied}
+use Rattle.model.proofs.Sound.{Sound, begin-sound, after-sound}
 
 -- ---- a disturbance whose radii are all zero leaves the set and the totals
 zeros-added : (l r : List ℕ) → length r ≡ length l → allZero r ≡ true → plusℕ l r ≡ l
@@ -91,9 +94,33 @@ is-empty f next s w c l z =
     let zeros : allZero (givenRadii (body f)) ≡ true = sym (ap (λ (m : Meaning). m .empty) e) ∙ z in
     rw (w, t, counts, long, zeros)
 
--- ---- the same state with another count
-abbrev pub counting : ℕ → State → State
-counting c st = record { set = st .set; next = st .next; count = c; over = st .over; folded = st .folded }
+-- ---- causes left out
+-- the other numbers are answered as before where those with one number are left out
+left-out : (n : ℕ) (cs : List Cause) → ¬ (firstOf cs ≡ some n) → firstOf (those (λ c. not (eqb (c .number) n)) cs) ≡ firstOf cs
+unfolding firstOf those
+left-out n [] h = refl
+left-out n (c ∷ cs) h = go (eqb (c .number) n) (c .holds) refl refl h (left-out n cs)
+  where
+    kept : List Cause
+    kept = those (λ c. not (eqb (c .number) n)) cs
+
+    go : (b x : Bool) → eqb (c .number) n ≡ b → c .holds ≡ x → ¬ (cond x (some (c .number)) (firstOf cs) ≡ some n)
+        → (¬ (firstOf cs ≡ some n) → firstOf kept ≡ firstOf cs)
+        → firstOf (cond (not b) (c ∷ kept) kept) ≡ cond x (some (c .number)) (firstOf cs)
+    go true true p q h ih = absurd (h (ap some (eqb-true (c .number) n p)))
+    go true false p q h ih = ih h
+    go false true p q h ih = rw q
+    go false false p q h ih = rw q (ih h)
+
+-- the first cause holds where its number is answered and no other that holds has it
+first-holds : (c : Cause) (cs : List Cause) (n : ℕ) → any (λ c. eqb (c .number) n && c .holds) cs ≡ false → firstOf (c ∷ cs) ≡ some n
+    → c .holds ≡ true
+unfolding firstOf
+first-holds c cs n others e = go (c .holds) refl e
+  where
+    go : (x : Bool) → c .holds ≡ x → cond x (some (c .number)) (firstOf cs) ≡ some n → x ≡ true
+    go true p e = refl
+    go false p e = absurd (not-answered n cs others e)
 
 -- where no cause holds none is the first
 none-first : {cs : List Cause} → All (λ c. c .holds ≡ false) cs → firstOf cs ≡ none
@@ -110,26 +137,61 @@ placed zero (suc m) l h (t ∷ f) e = absurd (omega (arith, h (omega arith)))
 placed (suc c) zero l h (t ∷ f) e = absurd (omega arith)
 placed (suc c) (suc m) l h (t ∷ f) e = e
 
-module _ (st : State) (f : List ℕ) where
-  not-empty : cut f ≡ false → emptyDisturbance f ≡ false → meant st f .wrongCounts ≡ false
-      → not (eqb (length (body f)) (meant st f .bytes)) ≡ false → meant st f .empty ≡ false
-  not-empty w n c l = go (meant st f .empty) refl where
-    go : (b : Bool) → meant st f .empty ≡ b → meant st f .empty ≡ false
-    go true p = absurd (true≢false (sym (is-empty f (st .next) (current st) w c (not-false _ l) p) ∙ n))
-    go false p = p
+-- ---- a field that is refused with 14
+module _ (st : State) (f : List ℕ) (e : refusal st f ≡ some 14) where
+  asked : All (λ c. c .holds ≡ false) (take 8 (causes st f)) × (firstOf (drop 8 (causes st f)) ≡ some 14)
+  unfolding causes any
+  asked = passed-before 14 (take 8 (causes st f)) (drop 8 (causes st f)) refl e
 
+  told : meant st f .empty ≡ true
+  unfolding causes any
+  told = first-holds (14 if meant st f .empty) (drop 9 (causes st f)) 14 refl (asked .1)
+
+  refused-empty : emptyDisturbance f ≡ true
+  unfolding causes
+  refused-empty = go (asked .0)
+    where
+      go : All (λ c. c .holds ≡ false) (take 8 (causes st f)) → emptyDisturbance f ≡ true
+      go (more late (more place (more end (more short (more counts (more bytes rest)))))) =
+          is-empty f (st .next) (current st) end counts (not-false _ bytes) told
+
+-- Only an empty disturbance is refused with 14.
+pub only-empty : OnlyEmpty
+only-empty st f e = refused-empty st f e
+
+-- Any other field, and one that is refused with another number, was refused, left and answered as now.
+pub old-otherwise : OldOtherwise
+unfolding oldCauses oldAfter after oldOutcome outcome
+old-otherwise st f n =
+    let e : oldRefusal st f ≡ refusal st f = left-out 14 (causes st f) n in
+    record {
+      same-refusal = e;
+      same-state = ap (λ o. cond (st .over) st (elim o [ none ↦ acceptedBy st (meant st f) | some n ↦ refusedAt st ])) e;
+      same-outcome = λ place. ap
+          (λ o. cond (st .over) skipped (elim o [ none ↦ meant st f .outcome | some n ↦ refused n place ])) e;
+    }
+
+pub others-as-now : (st : State) (f : List ℕ) → emptyDisturbance f ≡ false → AsNow st f
+others-as-now st f n = old-otherwise st f (λ e. true≢false (sym (only-empty st f e) ∙ n))
+
+-- So did a list of fields without an empty disturbance.
+pub old-run-otherwise : OldRunOtherwise
+unfolding oldRun run any
+old-run-otherwise [] st n = refl
+old-run-otherwise (f ∷ fs) st n =
+    let h = or-false (emptyDisturbance f) (any emptyDisturbance fs) n in
+    ap (oldRun fs) (others-as-now st f (h .0) .same-state) ∙ old-run-otherwise fs (after st f) (h .1)
+
+module _ (st : State) (f : List ℕ) where
   -- a field that the old run accepted, and that is no empty disturbance, is accepted
   pub accepts : (c : ℕ) → c ≤ st .count → (0 < st .count → 0 < c) → emptyDisturbance f ≡ false → oldRefusal st f ≡ none
       → refusal (counting c st) f ≡ none
-  unfolding oldCauses causes
-  accepts c l h n e = go (no-cause (oldCauses st f) e) where
-    go : All (λ c. c .holds ≡ false) (oldCauses st f) → refusal (counting c st) f ≡ none
-    go (more late (more place (more end (more short (more counts (more bytes (more sizes (more range (more order (more wide (more many
-        (more result t)))))))))))) =
+  unfolding causes
+  accepts c l h n e = go (no-cause (causes st f) (sym (others-as-now st f n .same-refusal) ∙ e)) where
+    go : All (λ c. c .holds ≡ false) (causes st f) → refusal (counting c st) f ≡ none
+    go (more late (more place rest)) =
         let few : c ≤ lastField = omega (arith, ltb-false lastField (st .count) late) in
-        let filled = not-empty end n counts bytes in
-        none-first (more (le-ltb lastField c few) (more (placed c (st .count) l h f place) (more end (more short (more counts
-        (more bytes (more sizes (more range (more filled (more order (more wide (more many (more result t)))))))))))))
+        none-first (more (le-ltb lastField c few) (more (placed c (st .count) l h f place) rest))
 
   -- a field after which the old run isn't over was accepted
   pub went : oldAfter st f .over ≡ false → (st .over ≡ false) × (oldRefusal st f ≡ none)
@@ -163,7 +225,7 @@ module _ (st : State) (f : List ℕ) where
 -- the tests of the old run that an empty disturbance passed
 pub old-placed : (st : State) (f : List ℕ) → oldRefusal st f ≡ none
     → (misplaced (st .count) f ≡ false) × (meant st f .wrongDimension ≡ false)
-unfolding oldCauses
+unfolding oldCauses causes those
 old-placed st f e = go (no-cause (oldCauses st f) e) where
   go : All (λ c. c .holds ≡ false) (oldCauses st f) → (misplaced (st .count) f ≡ false) × (meant st f .wrongDimension ≡ false)
   go (more late (more place (more end (more short (more counts (more bytes (more sizes rest))))))) = (place, sizes)
@@ -175,29 +237,118 @@ after-start st f d p = go (st .count) p where
   go zero p = absurd (true≢false (ap starts (sym (first-starts f p (d .whole)) ∙ kind-of f d)))
   go (suc n) p = omega arith
 
--- and left all but the count as it was
-pub leaves-all : (c : ℕ) (st : State) (f : List ℕ) → Sound (counting c st) → 0 < c → Emptied f → st .over ≡ false
-    → meant st f .wrongDimension ≡ false → counting c (acceptedBy st (meant st f)) ≡ counting c st
-unfolding meaning
-leaves-all c st f h l d o w = λ i. record { set = sets i; next = nexts i; count = c; over = sym o i; folded = totals i }
+-- ---- what an empty disturbance leaves
+module _ (c : ℕ) (st : State) (f : List ℕ) (h : Sound (counting c st)) (l : 0 < c) (d : Emptied f)
+    (w : meant st f .wrongDimension ≡ false) where
+  by-kind : Kind → Meaning
+  by-kind k = meaning k (body f) (st .next) (current st)
+
+  -- its result is the set
+  result-stays : meant st f .result ≡ current st
+  unfolding meaning by-kind
+  result-stays =
+      ap (λ k. by-kind k .result) (kind-of f d) ∙ disturbs-nothing (givenRadii (body f)) (current st) long (d .zero-radii)
+    where
+      long : length (givenRadii (body f)) ≡ length (current st .radii .given)
+      long = given-radii (body f)
+          ∙ same (dimension (body f)) (current st .dimension) (sym (ap (λ k. by-kind k .wrongDimension) (kind-of f d)) ∙ w)
+          ∙ sym (h .valid l .shaped .radii-long .given-long)
+
+  -- all but the count is as it was
+  pub leaves-all : st .over ≡ false → counting c (acceptedBy st (meant st f)) ≡ counting c st
+  unfolding meaning by-kind
+  leaves-all o = λ i. record { set = sets i; next = nexts i; count = c; over = sym o i; folded = totals i }
+    where
+      sets : some (meant st f .result) ≡ st .set
+      sets = ap some result-stays ∙ sym (h .there l)
+
+      nexts : meant st f .next ≡ st .next
+      nexts = ap (λ k. by-kind k .next) (kind-of f d)
+
+      totals : withFolds (st .folded) (meant st f .folds) ≡ st .folded
+      totals = ap (λ k. withFolds (st .folded) (by-kind k .folds)) (kind-of f d) ∙ no-folds (st .folded) (h .six-totals)
+
+-- ---- where it is refused with 14, in a sound state
+module _ {st : State} (h : Sound st) (f : List ℕ) (e : refusal st f ≡ some 14) where
+  d : Emptied f
+  d = emptied f (only-empty st f e)
+
+  passed : (st .count ≤ lastField) × (0 < st .count) × (oldRefusal st f ≡ none) × (meant st f .wrongDimension ≡ false)
+  unfolding causes oldCauses those meaning
+  passed = go (asked st f e .0)
+    where
+      is : meant st f ≡ meaning disturbance (body f) (st .next) (current st)
+      is = ap (λ k. meaning k (body f) (st .next) (current st)) (kind-of f d)
+
+      go : All (λ c. c .holds ≡ false) (take 8 (causes st f))
+          → (st .count ≤ lastField) × (0 < st .count) × (oldRefusal st f ≡ none) × (meant st f .wrongDimension ≡ false)
+      go (more late (more place (more end (more short (more counts (more bytes (more sizes (more range t)))))))) =
+          let l = after-start st f d place in
+          let narrow = ap tooWide (result-stays (st .count) st f h l d sizes) ∙ h .valid l .narrow in
+          let all = none-first (more late (more place (more end (more short (more counts (more bytes (more sizes (more range
+          (more (ap (λ (m : Meaning). m .disordered) is) (more (ap (λ (m : Meaning). m .wide) is)
+          (more (ap (λ (m : Meaning). m .manyFactors) is) (more narrow t)))))))))))) in
+          (ltb-false _ _ late, l, all, sizes)
+
+  only-counted : st .over ≡ false → OnlyCounted st f
+  unfolding meaning
+  only-counted o =
+      let was = passed .2 in
+      let w = passed .3 in
+      let as-was = leaves-all (st .count) st f h (passed .1) d w o in
+      record {
+        unrefused = was;
+        counted = old-left st f o was ∙ ap (counting (st .count + 1)) as-was;
+        set-box = λ place. old-answer st f place o was
+            ∙ ap (λ k. meaning k (body f) (st .next) (current st) .outcome) (kind-of f d)
+            ∙ ap (λ s. inside (box s)) (sym (ap (λ k. meaning k (body f) (st .next) (current st) .result) (kind-of f d))
+            ∙ result-stays (st .count) st f h (passed .1) d w);
+      }
+
+  counted-sound : Sound (counting (st .count + 1) st)
+  counted-sound =
+      let n = passed .0 in
+      let most = h .twelve-each in
+      record {
+        valid = λ _. h .valid (passed .1);
+        there = λ _. h .there (passed .1);
+        not-yet = λ e. absurd (omega arith);
+        below = h .below;
+        from-first = h .from-first;
+        twelve-each = omega arith;
+        count-in = omega arith;
+        six-totals = h .six-totals;
+        spans-most = λ i. omega (arith, h .spans-most i);
+      }
+
+-- ---- every state of an old run is sound
+old-over-stays : (st : State) (f : List ℕ) → st .over ≡ true → oldAfter st f ≡ st
+unfolding oldAfter
+old-over-stays st f o = rw o
+
+old-sound : {st : State} → Sound st → (f : List ℕ) → Sound (oldAfter st f)
+old-sound {st} h f = go (refusal st f) refl
   where
-    b : List ℕ
-    b = body f
+    as-now : ¬ (refusal st f ≡ some 14) → Sound (oldAfter st f)
+    as-now n = subst Sound (sym (old-otherwise st f n .same-state)) (after-sound h f)
 
-    m : Kind → Meaning
-    m k = meaning k b (st .next) (current st)
+    empty : (b : Bool) → st .over ≡ b → refusal st f ≡ some 14 → Sound (oldAfter st f)
+    empty true o e = subst Sound (sym (old-over-stays st f o)) h
+    empty false o e = subst Sound (sym (only-counted h f e o .counted)) (counted-sound h f e)
 
-    long : length (givenRadii b) ≡ length (current st .radii .given)
-    long = given-radii b ∙ same (dimension b) (current st .dimension) (sym (ap (λ k. m k .wrongDimension) (kind-of f d)) ∙ w)
-        ∙ sym (h .valid l .shaped .radii-long .given-long)
+    by-number : (n : ℕ) (b : Bool) → eqb n 14 ≡ b → refusal st f ≡ some n → Sound (oldAfter st f)
+    by-number n true p e = empty (st .over) refl (e ∙ ap some (eqb-true n 14 p))
+    by-number n false p e = as-now (λ q. eqb-false n 14 p (ap (λ o. Option·getD o 0) (sym e ∙ q)))
 
-    sets : some (meant st f .result) ≡ st .set
-    sets =
-        ap some (ap (λ k. m k .result) (kind-of f d) ∙ disturbs-nothing (givenRadii b) (current st) long (d .zero-radii))
-        ∙ sym (h .there l)
+    go : (o : Option ℕ) → refusal st f ≡ o → Sound (oldAfter st f)
+    go none e = as-now (λ q. Option·none-ne-some 14 (sym e ∙ q))
+    go (some n) e = by-number n (eqb n 14) refl e
 
-    nexts : meant st f .next ≡ st .next
-    nexts = ap (λ k. m k .next) (kind-of f d)
+oldRun-sound : (fs : List (List ℕ)) {st : State} → Sound st → Sound (oldRun fs st)
+unfolding oldRun
+oldRun-sound [] h = h
+oldRun-sound (f ∷ fs) h = oldRun-sound fs (old-sound h f)
 
-    totals : withFolds (st .folded) (meant st f .folds) ≡ st .folded
-    totals = ap (λ k. withFolds (st .folded) (m k .folds)) (kind-of f d) ∙ no-folds (st .folded) (h .six-totals)
+-- A field of an old run that is refused with 14 now was accepted and left all but the count.
+pub old-empty : OldEmpty
+old-empty fs f o e = only-counted (oldRun-sound fs begin-sound) f e o

@@ -141,7 +141,7 @@ module _ (f more : List ℕ) (e : length f ≡ fieldLength f) where
   first-is : firstField (f ++ more) ≡ f
   first-is = first-kept f more not-cut ∙ take-all (fieldLength f) f (omega arith)
 
-  whole-first : fieldsOf (f ++ more) ≡ f ∷ fieldsOf more
+  pub whole-first : fieldsOf (f ++ more) ≡ f ∷ fieldsOf more
   whole-first =
       first-then (f ++ more) (omega (arith, length-append f more))
       ∙ ap₂ _∷_ first-is (ap fieldsOf (ap (λ (g : List ℕ). drop (length g) (f ++ more)) first-is ∙ drop-append-seam f more))

@@ -21,7 +21,7 @@
 --     Origin       where the radii come from, and what is claimed of that
 --     Precision    how close the results are to the true points, and what is claimed of that (demand 2)
 --     Between      what is claimed of a hull
---     OldRun       the run before request A.5, and what is claimed of rewritten files
+--     OldRun       the run before request A.5, and what is claimed of it and of rewritten files
 pub mod Limits
 pub mod Set
 pub mod Valid

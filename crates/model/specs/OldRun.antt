@@ -1,40 +1,25 @@
 -- The run as it was before request A.5, when a disturbance whose radii are all zero was accepted, kept for what is claimed of rewritten
--- files and for nothing else. The claims are proved in proofs/Kept.antt and proofs/Rewritten.antt.
+-- files and for nothing else. The claims are proved in proofs/OldField.antt, proofs/Kept.antt and proofs/Rewritten.antt.
 use mathlib.Core.Path.{_≡_}
 use mathlib.Core.List.{List, [], _∷_}
 use mathlib.Core.Option.{Option, none, some}
-use mathlib.Core.Bool.{false, not, cond}
+use mathlib.Core.Bool.{true, false, not, cond}
 use Prim.Native.Nat.{ℕ, _+_}
-use lib.Dec.{ltb, eqb}
+use lib.Dec.{eqb}
 use lib.ListN.{length}
 use Rattle.whole.specs.Tab.{any}
-use Rattle.model.specs.Limits.{lastField}
 use Rattle.model.specs.Set.{Zonotope}
-use Rattle.model.specs.Valid.{tooWide}
-use Rattle.model.specs.Field.{Outcome, refused, skipped}
-use Rattle.model.specs.Run.{State, begin, body, meant, Cause, _if_, firstOf, misplaced, cut, acceptedBy, refusedAt, after, outcome}
+use Rattle.model.specs.Finish.{those}
+use Rattle.model.specs.Operations.{box}
+use Rattle.model.specs.Field.{Outcome, inside, refused, skipped}
+use Rattle.model.specs.Run.{State, begin, current, meant, Cause, firstOf, causes, refusal, acceptedBy, refusedAt, after, outcome}
 use Rattle.model.specs.Run.{run, fields}
 use Rattle.model.specs.Rewrite.{emptyDisturbance, rewritten}
 
 -- ---- the old run
--- all causes, in the order in which they were asked
+-- the causes, in the order in which they were asked: those of a run but 14
 unfoldable pub oldCauses : State → List ℕ → List Cause
-oldCauses st f =
-    let m = meant st f in
-    let bytes = length (body f) in
-    (12 if ltb lastField (st .count))
-    ∷ (2 if misplaced (st .count) f)
-    ∷ (1 if cut f)
-    ∷ (3 if ltb bytes (m .countBytes))
-    ∷ (4 if m .wrongCounts)
-    ∷ (3 if not (eqb bytes (m .bytes)))
-    ∷ (5 if m .wrongDimension)
-    ∷ (6 if m .outOfRange)
-    ∷ (7 if m .disordered)
-    ∷ (8 if m .wide)
-    ∷ (9 if m .manyFactors)
-    ∷ (10 if tooWide (m .result))
-    ∷ []
+oldCauses st f = those (λ c. not (eqb (c .number) 14)) (causes st f)
 
 abbrev pub oldRefusal : State → List ℕ → Option ℕ
 oldRefusal st f = firstOf (oldCauses st f)
@@ -50,6 +35,39 @@ oldOutcome place st f = cond (st .over) skipped (elim (oldRefusal st f) [ none �
 unfoldable pub oldRun : List (List ℕ) → State → State
 oldRun [] st = st
 oldRun (f ∷ fs) st = oldRun fs (oldAfter st f)
+
+-- ---- what is claimed of the old run
+-- a field was refused as it is now, left what it leaves now and got the answer that it gets now
+pub record AsNow (st : State) (f : List ℕ) : Type 0 where
+  pub same-refusal : oldRefusal st f ≡ refusal st f
+  pub same-state : oldAfter st f ≡ after st f
+  pub same-outcome : (place : ℕ) → oldOutcome place st f ≡ outcome place st f
+
+-- In every state that is so of each field that isn't refused with 14.
+abbrev pub OldOtherwise : Type 0
+OldOtherwise = (st : State) (f : List ℕ) → ¬ (refusal st f ≡ some 14) → AsNow st f
+
+-- Only an empty disturbance is refused with 14.
+abbrev pub OnlyEmpty : Type 0
+OnlyEmpty = (st : State) (f : List ℕ) → refusal st f ≡ some 14 → emptyDisturbance f ≡ true
+
+-- So a list of fields without an empty disturbance ran as it does now.
+abbrev pub OldRunOtherwise : Type 0
+OldRunOtherwise = (fs : List (List ℕ)) (st : State) → any emptyDisturbance fs ≡ false → oldRun fs st ≡ run fs st
+
+-- the same state with another count
+abbrev pub counting : ℕ → State → State
+counting c st = record { set = st .set; next = st .next; count = c; over = st .over; folded = st .folded }
+
+-- a field was accepted, left all but the count as it was and got the box of the set
+pub record OnlyCounted (st : State) (f : List ℕ) : Type 0 where
+  pub unrefused : oldRefusal st f ≡ none
+  pub counted : oldAfter st f ≡ counting (st .count + 1) st
+  pub set-box : (place : ℕ) → oldOutcome place st f ≡ inside (box (current st))
+
+-- In every old run that met no refusal that is so of each field that is refused with 14 now.
+abbrev pub OldEmpty : Type 0
+OldEmpty = (fs : List (List ℕ)) (f : List ℕ) → (let st = oldRun fs begin in st .over ≡ false → refusal st f ≡ some 14 → OnlyCounted st f)
 
 -- ---- what comes of a field: its number, the set that it leaves, its box or verdict
 pub record Result : Type 0 where
@@ -75,7 +93,7 @@ unfoldable pub numbered : ℕ → List Result → List Result
 numbered n [] = []
 numbered n (r ∷ rs) = record { number = n; set = r .set; outcome = r .outcome } ∷ numbered (n + 1) rs
 
--- ---- what is claimed
+-- ---- what is claimed of rewritten files
 -- The run of a rewritten file: no field is refused; each leaves and answers what it did, in order, numbered anew; folding added the same.
 pub record Kept (input : List ℕ) : Type 0 where
   pub unrefused : run (fields (rewritten input)) begin .over ≡ false
