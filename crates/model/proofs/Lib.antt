@@ -20,7 +20,7 @@
 --     Forms .. RangedPoint                 the step keeps every point, a ranged one under all coefficients within its half-widths
 --     HullPoint                            the hull has every point between those of both sets
 --     Close                                a step from a set without independent parts is close to the true image (demand 2)
---     Ranged                               a ranged step with half-widths of 0 is the step
+--     ZerosAfter, Ranged                   a ranged step with half-widths of 0 is the step, also as a field
 --     Ends, BoxPoint, SafePoint            the box holds every point; a region that the check calls safe holds none
 --     Moves, Enclosed                      each kind of field keeps every motion; demand 3, entire
 --     OldFault                             with a next identifier that doesn't rise, demand 3 is false
@@ -99,6 +99,7 @@ pub mod StepPoint
 pub mod RangedPoint
 pub mod HullPoint
 pub mod Close
+pub mod ZerosAfter
 pub mod Ranged
 pub mod Ends
 pub mod BoxPoint

@@ -1,25 +1,40 @@
--- Steps whose remainders gain something: where nothing is gained they are the step, so that a ranged step with half-widths of 0 is.
-use mathlib.Core.Path.{_≡_, refl, sym, _∙_, ap, ap₂}
-use mathlib.Core.List.{List}
+-- Steps whose remainders gain something: where nothing is gained they are the step, so that a ranged step with half-widths of 0 is, and in
+-- a run a field of tag 9 with such half-widths is refused, leaves and answers as the field of tag 2 without them.
+use mathlib.Core.Path.{_≡_, refl, sym, _∙_, ap, ap₂, subst}
+use mathlib.Core.List.{List, [], _∷_, _++_}
+use mathlib.Core.Bool.{Bool, true, false, not, cond, _||_}
+use mathlib.Core.Option.{Option, none, some}
 use Prim.Native.Nat.{ℕ, zero, suc, _+_, _*_, _<_}
 use native.Mathlib.Nat.{add-zero}
+use native.Mathlib.Decide.{decLt}
 use native.Mathlib.Omega.{arith}
-use lib.ListN.{length, getD}
+use borrow.Author.Tests.{le-ltb, eqb-true, eqb-false, eq-eqb, ne-eqb, not-false}
+use lib.Dec.{ltb, eqb}
+use lib.ListN.{length, drop, getD, length-append, List·getD-eq-default}
+use lib.IntN.{ℤ, pos, natAbs}
 use lib.Seq.{ext-getD}
-use Rattle.whole.specs.Tab.{tab, tab-cong, length-tab, getD-tab}
-use Rattle.rational.specs.Sum.{All, none, more}
-use Rattle.model.specs.Set.{Zonotope, plusℕ, span}
-use Rattle.model.specs.Limits.{standardWeights}
+use Rattle.whole.specs.Tab.{tab, any, tab-cong, length-tab, getD-tab}
+use Rattle.rational.specs.Sum as Sum
+use Rattle.rational.specs.Sum.{All, more, All-imp, All-map}
+use Rattle.model.specs.Set.{Zonotope, at, plusℕ, span}
+use Rattle.model.specs.Limits.{standardWeights, maxEntry, maxConstant, lastTag, lastField}
 use Rattle.model.specs.Step as Step
 use Rattle.model.specs.Step.{Step, raw, settled}
 use Rattle.model.specs.Operations.{disturb, box}
 use Rattle.model.specs.Ranged as Ranged
-use Rattle.model.specs.Ranged.{Widths, gain, gainingStep}
-use Rattle.model.specs.Body.{givenStep, givenWidths}
-use Rattle.model.specs.Field.{step, rangedStep, inside, meaning}
-use Rattle.model.specs.Precision.{NoWidths, ZeroWidths}
+use Rattle.model.specs.Ranged.{Widths, gain, gainingRaw, gainingStep, rangedRaw}
+use Rattle.model.specs.Bytes.{byte}
+use Rattle.model.specs.Body.{stepRows, stepColumns, stepLength, givenStep, rangedLength, linearWidthWords, quadraticWidthWords}
+use Rattle.model.specs.Body.{givenWidths}
+use Rattle.model.specs.Field.{step, rangedStep, inside, refused, skipped, badDimension, beyond, negative, differs, badStepRange}
+use Rattle.model.specs.Field.{beyondWith, badWidthRange, negativeWidth, foldsOf, Meaning, meaning}
+use Rattle.model.specs.Run.{State, current, tag, body, kindOf, meant, _if_, firstOf, misplaced, ofBody, causes, refusal}
+use Rattle.model.specs.Run.{acceptedBy, refusedAt, after, outcome}
+use Rattle.model.specs.Precision.{NoWidths, ZeroWidths, zeroWidths, WithZeroWidths, ZeroWidthsField}
 use Rattle.model.proofs.Vectors.{longer-length, plusℕ-at}
 use Rattle.model.proofs.Close.{upto-zero}
+use Rattle.model.proofs.Tests.{or-false, false-or, any-false, false-any, all-tab, no-cause}
+use Rattle.model.proofs.ZerosAfter.{words-like, step-like, zeros-after, words-past}
 
 -- only what the step's coordinates gain matters
 pub gaining-cong : (weights : List ℕ) (p : Step) (s : Zonotope) {f g : ℕ → ℕ} → ((i : ℕ) → i < p .rows → f i ≡ g i)
@@ -37,12 +52,11 @@ plus-zeros n f = ext-getD 0 (plusℕ (tab n f) (tab n (λ i. 0))) (tab n f) long
     long : length (plusℕ (tab n f) (tab n (λ i. 0))) ≡ length (tab n f)
     long = longer-length _+_ (tab n f) (tab n (λ i. 0)) (length-tab n f ∙ sym (length-tab n (λ i. 0)))
 
-pub nothing-gained : (weights : List ℕ) (p : Step) (s : Zonotope) {f : ℕ → ℕ} → ((i : ℕ) → i < p .rows → f i ≡ 0)
-    → gainingStep weights f p s ≡ Step.step weights p s
-unfolding gainingStep Step.step disturb raw
-nothing-gained weights p s h =
-    gaining-cong weights p s h
-    ∙ ap (λ (r : List ℕ). settled weights (record {
+pub nothing-gained-raw : (p : Step) (s : Zonotope) {f : ℕ → ℕ} → ((i : ℕ) → i < p .rows → f i ≡ 0) → gainingRaw f p s ≡ raw p s
+unfolding disturb raw
+nothing-gained-raw p s {f} h =
+    ap (λ (r : List ℕ). disturb r (raw p s)) (tab-cong (p .rows) f (λ i. 0) h)
+    ∙ ap (λ (r : List ℕ). record {
       dimension = raw p s .dimension;
       identifiers = raw p s .identifiers;
       centre = raw p s .centre;
@@ -54,11 +68,16 @@ nothing-gained weights p s h =
         folded = raw p s .radii .folded;
         given = r;
       };
-    })) (plus-zeros (p .rows) (λ i. 0))
+    }) (plus-zeros (p .rows) (λ i. 0))
+
+pub nothing-gained : (weights : List ℕ) (p : Step) (s : Zonotope) {f : ℕ → ℕ} → ((i : ℕ) → i < p .rows → f i ≡ 0)
+    → gainingStep weights f p s ≡ Step.step weights p s
+unfolding gainingStep Step.step
+nothing-gained weights p s h = ap (settled weights) (nothing-gained-raw p s h)
 
 -- ---- half-widths of 0
 zero-at : {ws : List ℕ} → All (λ w. w ≡ 0) ws → (k : ℕ) → getD ws k 0 ≡ 0
-zero-at none k = refl
+zero-at Sum.none k = refl
 zero-at (more e h) zero = e
 zero-at (more e h) (suc k) = zero-at h k
 
@@ -74,16 +93,220 @@ gain-zero n d s i h =
     quadratic : {w : ℕ} (m : ℕ) → w ≡ 0 → w * m ≡ 0
     quadratic m e = rw e (omega arith)
 
+all-at : {A : Type 0} {P : A → Type 0} {l : List A} (d : A) → All P l → (i : ℕ) → i < length l → P (getD l i d)
+all-at d Sum.none i h = absurd (omega arith)
+all-at d (more p ps) zero h = p
+all-at d (more p ps) (suc i) h = all-at d ps i (omega arith)
+
+-- an entry that is in range is so with its half-width
+entries-stay : (entries : List ℤ) (widths : List ℕ) → All (λ w. w ≡ 0) widths → any (beyond maxEntry) entries ≡ false
+    → beyondWith entries widths ≡ false
+unfolding beyondWith
+entries-stay entries widths z e = false-any _ (all-tab (length entries) (λ k. k) (λ k l.
+    ap (λ n. ltb maxEntry n) (ap (natAbs (at entries k) +_) (zero-at z k) ∙ add-zero (natAbs (at entries k)))
+    ∙ all-at (pos 0) (any-false (beyond maxEntry) entries e) k l))
+
+module _ (p : Step) (d : Widths) (h : NoWidths d) where
+  raw-stays : (s : Zonotope) → rangedRaw p d s ≡ raw p s
+  raw-stays s = nothing-gained-raw p s (λ i _. gain-zero (p .columns) d s i h)
+
+  range-stays : badStepRange p || (false || badWidthRange p d) ≡ badStepRange p
+  range-stays = go (badStepRange p) refl
+    where
+      go : (x : Bool) → badStepRange p ≡ x → x || (false || badWidthRange p d) ≡ x
+      go true e = refl
+      go false e =
+          let q = or-false (any (beyond maxConstant) (p .constant) || any (beyond maxEntry) (p .linear)) _ e in
+          let l = or-false (any (beyond maxConstant) (p .constant)) _ (q .0) in
+          false-or (entries-stay (p .linear) (d .linear) (h .linear) (l .1))
+          (entries-stay (p .quadratic) (d .quadratic) (h .quadratic) (q .1))
+
 -- A ranged step with half-widths of 0 is the step.
 pub zero-widths : ZeroWidths
-unfolding Ranged.rangedStep
-zero-widths weights p d s h = nothing-gained weights p s (λ i _. gain-zero (p .columns) d s i h)
+unfolding Ranged.rangedStep gainingStep Step.step
+zero-widths weights p d s h = ap (settled weights) (raw-stays p d h s)
 
--- So a field of tag 9 with half-widths of 0 leaves what the step with its entries leaves, and answers the same.
-pub zero-widths-field : (b : List ℕ) (next : ℕ) (s : Zonotope) → NoWidths (givenWidths b)
-    → (meaning rangedStep b next s .result ≡ meaning step b next s .result)
-    × (meaning rangedStep b next s .outcome ≡ meaning step b next s .outcome)
+-- a meaning with another length
+abbrev withBytes : ℕ → Meaning → Meaning
+withBytes n m = record {
+  countBytes = m .countBytes;
+  wrongCounts = m .wrongCounts;
+  bytes = n;
+  wrongDimension = m .wrongDimension;
+  outOfRange = m .outOfRange;
+  empty = m .empty;
+  disordered = m .disordered;
+  wide = m .wide;
+  manyFactors = m .manyFactors;
+  result = m .result;
+  folds = m .folds;
+  next = m .next;
+  outcome = m .outcome;
+}
+
+-- ---- the body of a step, and half-widths of 0
+abbrev ranged : List ℕ → List ℕ
+ranged b = b ++ zeroWidths b
+
+abbrev widthBytes : List ℕ → ℕ
+widthBytes b = 4 * (stepRows b * stepColumns b) + 4 * (stepRows b * stepColumns b * stepColumns b)
+
+module _ (b : List ℕ) where
+  alike : (i : ℕ) → byte (ranged b) i ≡ byte b i
+  alike = zeros-after b (widthBytes b)
+
+  long : length (ranged b) ≡ length b + widthBytes b
+  long = length-append b (zeroWidths b) ∙ ap (length b +_) (length-tab (widthBytes b) (λ i. 0))
+
+  step-long : stepLength (ranged b) ≡ stepLength b
+  step-long = ap₂ (λ m n. 2 + 4 * m + 4 * (m * n) + 4 * (m * n * n)) (alike 0) (alike 1)
+
+  ranged-long : rangedLength (ranged b) ≡ stepLength b + widthBytes b
+  ranged-long =
+      ap₂ (λ m n. 2 + 4 * m + 4 * (m * n) + 4 * (m * n * n) + 4 * (m * n) + 4 * (m * n * n)) (alike 0) (alike 1) ∙ omega arith
+
+  -- no byte is added where the counts are not there
+  count-bytes : ltb (length (ranged b)) 2 ≡ ltb (length b) 2
+  count-bytes = go (decLt (length b) 2)
+    where
+      go : Dec (length b < 2) → ltb (length (ranged b)) 2 ≡ ltb (length b) 2
+      go (yes l) =
+          let n : stepColumns b ≡ 0 = List·getD-eq-default b 0 {n = 1} (omega arith) in
+          let z : widthBytes b ≡ 0 = ap (λ n. 4 * (stepRows b * n) + 4 * (stepRows b * n * n)) n ∙ omega arith in
+          let e : length (ranged b) ≡ length b = omega (arith, long, z) in
+          ap (λ n. ltb n 2) e
+      go (no l) = le-ltb (length (ranged b)) 2 (omega (arith, long)) ∙ sym (le-ltb (length b) 2 (omega arith))
+
+  -- where the step's length is right, the meaning is the step's, but the half-widths' bytes are asked for too
+  module _ (next : ℕ) (s : Zonotope) (e : length b ≡ stepLength b) where
+    linear-zero : All (λ z. z ≡ pos 0) (linearWidthWords (ranged b))
+    linear-zero = subst (All (λ z. z ≡ pos 0)) (sym (words-like (ranged b) b alike _ _)) (words-past b _ _ (omega (arith, step-long)))
+
+    quadratic-zero : All (λ z. z ≡ pos 0) (quadraticWidthWords (ranged b))
+    quadratic-zero = subst (All (λ z. z ≡ pos 0)) (sym (words-like (ranged b) b alike _ _)) (words-past b _ _ (omega (arith, step-long)))
+
+    no-widths : NoWidths (givenWidths (ranged b))
+    unfolding givenWidths
+    no-widths = record {
+      linear = All-map natAbs (All-imp (λ z e. ap natAbs e) linear-zero);
+      quadratic = All-map natAbs (All-imp (λ z e. ap natAbs e) quadratic-zero);
+    }
+
+    not-negative : negativeWidth (ranged b) ≡ false
+    not-negative = false-or (false-any negative (All-imp (λ z e. ap negative e) linear-zero))
+        (false-any negative (All-imp (λ z e. ap negative e) quadratic-zero))
+
+    same-step : givenStep (ranged b) ≡ givenStep b
+    same-step = step-like (ranged b) b alike
+
+    same-raw : rangedRaw (givenStep (ranged b)) (givenWidths (ranged b)) s ≡ raw (givenStep b) s
+    same-raw = raw-stays (givenStep (ranged b)) (givenWidths (ranged b)) no-widths s ∙ ap (λ p. raw p s) same-step
+
+    zero-widths-meaning : meaning rangedStep (ranged b) next s ≡ withBytes (stepLength b + widthBytes b) (meaning step b next s)
+    unfolding meaning Ranged.rangedStep gainingStep Step.step
+    zero-widths-meaning = λ i. record {
+      countBytes = 2;
+      wrongCounts = ap₂ (λ m n. badDimension m || badDimension n) (alike 0) (alike 1) i;
+      bytes = ranged-long i;
+      wrongDimension = ap (λ n. differs n (s .dimension)) (alike 1) i;
+      outOfRange = (ap (λ x. badStepRange (givenStep (ranged b)) || (x || badWidthRange (givenStep (ranged b)) (givenWidths (ranged b))))
+          not-negative ∙ range-stays (givenStep (ranged b)) (givenWidths (ranged b)) no-widths ∙ ap badStepRange same-step) i;
+      empty = false;
+      disordered = false;
+      wide = false;
+      manyFactors = false;
+      result = settled standardWeights (same-raw i);
+      folds = foldsOf (Step.rounded (same-raw i));
+      next = next;
+      outcome = inside (box (settled standardWeights (same-raw i)));
+    }
+
+-- the first cause of a body whose length is wrong
+wrong-length : (m : Meaning) (bytes : ℕ) → eqb bytes (m .bytes) ≡ false
+    → firstOf (ofBody m bytes) ≡ cond (ltb bytes (m .countBytes)) (some 3) (cond (m .wrongCounts) (some 4) (some 3))
+unfolding firstOf
+wrong-length m bytes e = rw e
+
+-- the first cause by the two tests of a body's length
+abbrev byLength : Meaning → Bool → Bool → Option ℕ
+byLength m short exact = firstOf ((3 if short) ∷ (4 if m .wrongCounts) ∷ (3 if not exact) ∷ drop 3 (ofBody m 0))
+
+-- both bodies are refused for the same cause, or neither is
+same-cause : (b : List ℕ) (next : ℕ) (s : Zonotope)
+    → firstOf (ofBody (meaning rangedStep (ranged b) next s) (length (ranged b))) ≡ firstOf (ofBody (meaning step b next s) (length b))
 unfolding meaning
-zero-widths-field b next s h =
-    let e = zero-widths standardWeights (givenStep b) (givenWidths b) s h in
-    (e, ap (λ (r : Zonotope). inside (box r)) e)
+same-cause b next s = go (eqb (length b) (stepLength b)) refl
+  where
+    go : (x : Bool) → eqb (length b) (stepLength b) ≡ x
+        → firstOf (ofBody (meaning rangedStep (ranged b) next s) (length (ranged b))) ≡ firstOf (ofBody (meaning step b next s) (length b))
+    go true p =
+        let e = eqb-true (length b) (stepLength b) p in
+        ap (λ m. firstOf (ofBody m (length (ranged b)))) (zero-widths-meaning b next s e)
+        ∙ ap₂ (byLength (meaning step b next s)) (count-bytes b)
+        (eq-eqb (length (ranged b)) (stepLength b + widthBytes b) (omega (arith, long b)) ∙ sym p)
+    go false p =
+        let n = eqb-false (length b) (stepLength b) p in
+        wrong-length (meaning rangedStep (ranged b) next s) (length (ranged b))
+        (ne-eqb (length (ranged b)) (rangedLength (ranged b)) (λ q. n (omega (arith, long b, ranged-long b))))
+        ∙ ap₂ (λ x w. cond x (some 3) (cond w (some 4) (some 3))) (count-bytes b)
+        (ap₂ (λ m n. badDimension m || badDimension n) (alike b 0) (alike b 1))
+        ∙ sym (wrong-length (meaning step b next s) (length b) p)
+
+-- ---- the fields
+-- both are out of place or neither is
+same-place : (n : ℕ) (f g : List ℕ) → tag f ≡ 9 → tag g ≡ 2 → misplaced n f ≡ misplaced n g
+unfolding misplaced
+same-place n [] g p q = absurd (omega arith)
+same-place n (t ∷ f) [] p q = absurd (omega arith)
+same-place zero (t ∷ f) (u ∷ g) p q = ap (λ t. not (eqb t 1)) p ∙ sym (ap (λ t. not (eqb t 1)) q)
+same-place (suc n) (t ∷ f) (u ∷ g) p q = ap (λ t. ltb t 2 || ltb lastTag t) p ∙ sym (ap (λ t. ltb t 2 || ltb lastTag t) q)
+
+module _ (st : State) (f g : List ℕ) (h : WithZeroWidths f g) where
+  f-means : meant st f ≡ meaning rangedStep (ranged (body g)) (st .next) (current st)
+  unfolding kindOf
+  f-means = ap₂ (λ k b. meaning k b (st .next) (current st)) (ap kindOf (h .tags .0)) (h .bodies)
+
+  g-means : meant st g ≡ meaning step (body g) (st .next) (current st)
+  unfolding kindOf
+  g-means = ap (λ k. meaning k (body g) (st .next) (current st)) (ap kindOf (h .tags .1))
+
+  same-first : firstOf (ofBody (meant st f) (length (body f))) ≡ firstOf (ofBody (meant st g) (length (body g)))
+  same-first =
+      ap₂ (λ m b. firstOf (ofBody m (length b))) f-means (h .bodies)
+      ∙ same-cause (body g) (st .next) (current st)
+      ∙ sym (ap (λ m. firstOf (ofBody m (length (body g)))) g-means)
+
+  same-refusals : refusal st f ≡ refusal st g
+  unfolding causes firstOf
+  same-refusals = λ i. cond (ltb lastField (st .count)) (some 12) (cond (same-place (st .count) f g (h .tags .0) (h .tags .1) i) (some 2)
+      (cond ((h .whole .0 ∙ sym (h .whole .1)) i) (some 1) (same-first i)))
+
+  -- where neither is refused, the length is right, and what doesn't look at it is the same
+  module _ {A : Type 0} (y : Meaning → A) (any-length : (m : Meaning) (n : ℕ) → y (withBytes n m) ≡ y m) where
+    same-meant : refusal st g ≡ none → y (meant st f) ≡ y (meant st g)
+    unfolding causes meaning
+    same-meant e = go (no-cause (causes st g) e)
+      where
+        go : All (λ c. c .holds ≡ false) (causes st g) → y (meant st f) ≡ y (meant st g)
+        go (more late (more place (more end (more short (more counts (more exact rest)))))) =
+            let l = eqb-true _ _ (not-false _ exact) ∙ ap (λ (m : Meaning). m .bytes) g-means in
+            ap y f-means ∙ ap y (zero-widths-meaning (body g) (st .next) (current st) l) ∙ any-length _ _ ∙ sym (ap y g-means)
+
+    same-choice : (x : A) (z : ℕ → A) → cond (st .over) x (elim (refusal st f) [ none ↦ y (meant st f) | some n ↦ z n ])
+        ≡ cond (st .over) x (elim (refusal st g) [ none ↦ y (meant st g) | some n ↦ z n ])
+    same-choice x z =
+        ap (λ o. cond (st .over) x (elim o [ none ↦ y (meant st f) | some n ↦ z n ])) same-refusals ∙ go (refusal st g) refl
+      where
+        go : (o : Option ℕ) → refusal st g ≡ o → cond (st .over) x (elim o [ none ↦ y (meant st f) | some n ↦ z n ])
+            ≡ cond (st .over) x (elim o [ none ↦ y (meant st g) | some n ↦ z n ])
+        go none e = ap (cond (st .over) x) (same-meant e)
+        go (some n) e = refl
+
+-- A field with half-widths of 0 is refused as the step without them, leaves the same and gets the same answer.
+pub zero-widths-field : ZeroWidthsField
+unfolding after outcome
+zero-widths-field st f g h = record {
+  same-refusal = same-refusals st f g h;
+  same-state = same-choice st f g h (acceptedBy st) (λ m n. refl) st (λ n. refusedAt st);
+  same-outcome = λ place. same-choice st f g h (λ m. m .outcome) (λ m n. refl) skipped (λ n. refused n place);
+}

@@ -27,7 +27,9 @@ use Rattle.model.specs.Body.{givenSet, givenStep, givenWidths}
 use Rattle.model.specs.Field.{meaning, beyondWith}
 use Rattle.model.specs.Run.{State, begin, kindOf, firstOf, misplaced, cut, causes, refusal, after, fields, fieldsWithin, run}
 use Rattle.model.specs.Run.{withFolds}
+use Rattle.model.specs.Precision.{SameField}
 use Rattle.model.proofs.Written.{bytes, words, field}
+use Rattle.model.proofs.Ranged.{zero-widths-field}
 
 -- ---- two coordinates
 -- two numbers
@@ -65,8 +67,8 @@ left r₁ r₂ = record {
   folded = blank 6;
 }
 
--- of the first coordinate S is 154 1/2 units and gains 69.2, which makes 224; of the second it is 2 and gains 9.5, which makes 12, and there
--- is an inexact rounding. Without half-widths they are 155 and 2, as after the step
+-- of the first coordinate S is 154 1/2 units and gains 69.2, which makes 224; of the second it is 2 and gains 9.5, which makes 12, and
+-- there is an inexact rounding. Without half-widths they are 155 and 2, as after the step
 pub half-widths-add :
     (run (fields (started ++ ranged (pos 205 ∷ pos 0 ∷ pos 3 ∷ pos 51 ∷ [])
     (pos 0 ∷ pos 40 ∷ pos 0 ∷ pos 3 ∷ pos 7 ∷ pos 0 ∷ pos 0 ∷ pos 60 ∷ []))) begin ≡ left 224 12)
@@ -80,6 +82,13 @@ unfolding after withFolds folds run causes firstOf misplaced cut kindOf fields f
     dropZeroTerms collectTerms insert collectInto those foldAll foldVector shift growth foldTimes foldSmallest smallest size keepAt
     longer even half halfSize
 half-widths-add = (refl, refl, refl)
+
+-- the last two fields in any other state
+pub zero-widths-anywhere : (st : State) → SameField st
+    (ranged (pos 0 ∷ pos 0 ∷ pos 0 ∷ pos 0 ∷ []) (pos 0 ∷ pos 0 ∷ pos 0 ∷ pos 0 ∷ pos 0 ∷ pos 0 ∷ pos 0 ∷ pos 0 ∷ []))
+    (field 2 (two 2 2 ++ entries))
+unfolding cut number tab
+zero-widths-anywhere st = zero-widths-field st _ _ (record { tags = (refl, refl); whole = (refl, refl); bodies = refl })
 
 -- ---- refusals
 -- the point 1,048,576 in one coordinate

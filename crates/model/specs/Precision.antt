@@ -2,10 +2,10 @@
 -- exactly the true points, and a step stays close to the true image. The theorems are in proofs/Exact.antt, proofs/Close.antt and
 -- proofs/Ranged.antt.
 use mathlib.Core.Path.{_≡_}
-use mathlib.Core.List.{List, []}
-use mathlib.Core.Bool.{true}
+use mathlib.Core.List.{List, [], _++_}
+use mathlib.Core.Bool.{true, false}
 use mathlib.Core.Logic.{_↔_}
-use Prim.Native.Nat.{ℕ, _+_, _<_, _≤_}
+use Prim.Native.Nat.{ℕ, _+_, _*_, _<_, _≤_}
 use lib.Dec.{ltb}
 use lib.ListN.{length, getD}
 use lib.IntN.{pos}
@@ -14,12 +14,14 @@ use Rattle.rational.specs.Bounds.{Within}
 use Rattle.rational.specs.Near.{Near}
 use Rattle.rational.specs.Sum.{All}
 use Rattle.model.specs.Limits.{maxTerms, maxGenerators, maxExponent}
-use Rattle.model.specs.Set.{Zonotope, radius}
+use Rattle.model.specs.Set.{Zonotope, radius, blank}
 use Rattle.model.specs.Valid.{rises}
 use Rattle.model.specs.Finish.{collectTerms, dropZeroTerms, dropZeroGenerators}
 use Rattle.model.specs.Step.{Step, raw, rounded, inexactAt, step}
 use Rattle.model.specs.Ranged.{Widths, rangedStep}
 use Rattle.model.specs.Operations.{joined, tiedSum, renumbered, independentSum, disturb}
+use Rattle.model.specs.Body.{stepRows, stepColumns}
+use Rattle.model.specs.Run.{State, tag, body, cut, refusal, after, outcome}
 use Rattle.model.specs.Points.{Vector, valueAt, Point, InRange}
 use Rattle.model.specs.Motion.{image}
 
@@ -90,3 +92,23 @@ pub record NoWidths (d : Widths) : Type 0 where
 -- a ranged step with half-widths of 0 is the step, and only there is it claimed to be close
 abbrev pub ZeroWidths : Type 0
 ZeroWidths = (weights : List ℕ) (p : Step) (d : Widths) (s : Zonotope) → NoWidths d → rangedStep weights p d s ≡ step weights p s
+
+-- the bytes of half-widths of 0 for the step in the body b
+abbrev pub zeroWidths : List ℕ → List ℕ
+zeroWidths b = blank (4 * (stepRows b * stepColumns b) + 4 * (stepRows b * stepColumns b * stepColumns b))
+
+-- a ranged step f has the body of the step g, then half-widths of 0; both fields are whole
+pub record WithZeroWidths (f g : List ℕ) : Type 0 where
+  pub tags : (tag f ≡ 9) × (tag g ≡ 2)
+  pub whole : (cut f ≡ false) × (cut g ≡ false)
+  pub bodies : body f ≡ body g ++ zeroWidths (body g)
+
+-- both are refused with the same number or neither is; they leave the same and get the same answer
+pub record SameField (st : State) (f g : List ℕ) : Type 0 where
+  pub same-refusal : refusal st f ≡ refusal st g
+  pub same-state : after st f ≡ after st g
+  pub same-outcome : (place : ℕ) → outcome place st f ≡ outcome place st g
+
+-- so it is in every state, whatever the bytes of the step are
+abbrev pub ZeroWidthsField : Type 0
+ZeroWidthsField = (st : State) (f g : List ℕ) → WithZeroWidths f g → SameField st f g
