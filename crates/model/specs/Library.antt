@@ -1,5 +1,5 @@
--- Single operations on records: which refusal a call gives, by the causes in their order, and what it gives where none holds.
--- A refusal gives the first set back as it came.
+-- Single operations on records: which refusal a call gives, by the causes in their order. What it gives where none holds, and that a
+-- refusal gives the first set back as it came, the calls' contracts say.
 use mathlib.Core.List.{List, [], _∷_, _++_}
 use mathlib.Core.Option.{Option}
 use mathlib.Core.Bool.{Bool, not, _||_}
@@ -48,7 +48,7 @@ ofRegion n count normals bounds s =
     ∷ (6 if any (beyond maxEntry) normals || any (beyond maxBound) bounds)
     ∷ []
 
--- ---- the calls: their causes, and what they give
+-- ---- the calls: the number of the refusal, where there is one
 unfoldable pub examine : Given → Option ℕ
 examine g = firstOf (ofFirst g)
 

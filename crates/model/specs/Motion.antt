@@ -23,7 +23,7 @@ use Rattle.model.specs.Field.{inside, verdict}
 use Rattle.model.specs.Run.{State, begin, current, tag, body, kindOf, accepted, after, outcome}
 use Rattle.model.specs.Points.{Vector, valueAt, Point, InRange}
 
--- ---- what a motion picks, apart from the fields; `m` is a field's number
+-- ---- what a motion picks, apart from the fields; `m` is a field's place in their list, from 0: its number, up to the first refusal
 pub record Picks : Type 0 where
   -- a value for each file identifier, kept for the whole run
   pub values : Vector
