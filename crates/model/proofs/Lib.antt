@@ -1,6 +1,7 @@
 -- What is proved of the definitions.
 --     Marked, Listing                      document 01's marked table, its listing and some refusals
 --     Written .. EmptyRun                  computed from bytes: all kinds in two coordinates; limits and refusals; 4,096 fields; rewriting
+--     ThreeCoordinates, LastEntries        a step and a ranged step in which each entry tells; limits met and passed by the last entry of a list
 --     Printed, Numerals, LastLine          the listing byte for byte; numbers as text; how an output ends
 --     Cutting                              an input cut after its first field
 --     Rewritten                            the fields of a rewritten file, and what is left of an input by its first field
@@ -34,6 +35,8 @@ pub mod Refusals
 pub mod Longest
 pub mod HullRun
 pub mod RangedRun
+pub mod ThreeCoordinates
+pub mod LastEntries
 pub mod EmptyRun
 pub mod Printed
 pub mod Numerals
