@@ -1,7 +1,8 @@
 -- What is proved of the definitions.
 --     Marked, Listing                      document 01's marked table, its listing and some refusals
 --     Written .. EmptyRun                  computed from bytes: all kinds in two coordinates; limits and refusals; 4,096 fields; rewriting
---     ThreeCoordinates, LastEntries        a step and a ranged step in which each entry tells; limits met and passed by the last entry of a list
+--     HullFolds                            a hull that folds, by the weights and to the limit
+--     ThreeCoordinates, LastEntries        each entry of a step and of its half-widths tells; the last entry of each list decides
 --     Printed, Numerals, LastLine          the listing byte for byte; numbers as text; how an output ends
 --     Cutting                              an input cut after its first field
 --     Rewritten                            the fields of a rewritten file, and what is left of an input by its first field
@@ -34,6 +35,7 @@ pub mod TwoCoordinates
 pub mod Refusals
 pub mod Longest
 pub mod HullRun
+pub mod HullFolds
 pub mod RangedRun
 pub mod ThreeCoordinates
 pub mod LastEntries
