@@ -3,6 +3,7 @@
 --     Written .. EmptyRun                  computed from bytes: all kinds in two coordinates; limits and refusals; 4,096 fields; rewriting
 --     HullFolds                            a hull that folds, by the weights and to the limit
 --     ThreeCoordinates, LastEntries        each entry of a step and of its half-widths tells; the last entry of each list decides
+--     LikeParts                            what each operation makes of the four parts of the radii, where none is 0
 --     Printed, Numerals, LastLine          the listing byte for byte; numbers as text; how an output ends
 --     Cutting                              an input cut after its first field
 --     Rewritten                            the fields of a rewritten file, and what is left of an input by its first field
@@ -39,6 +40,7 @@ pub mod HullFolds
 pub mod RangedRun
 pub mod ThreeCoordinates
 pub mod LastEntries
+pub mod LikeParts
 pub mod EmptyRun
 pub mod Printed
 pub mod Numerals
