@@ -4,7 +4,8 @@
 --     HullFolds                            a hull that folds, by the weights and to the limit
 --     ThreeCoordinates, LastEntries        each entry of a step and of its half-widths tells; the last entry of each list decides
 --     LikeParts                            what each operation makes of the four parts of the radii, where none is 0
---     Printed, Numerals, LastLine          the listing byte for byte; numbers as text; how an output ends
+--     Printed, FoldedLine                  the listing, and a line `folded` with numbers, byte for byte
+--     Numerals, LastLine                   numbers as text; how an output ends
 --     Cutting                              an input cut after its first field
 --     Rewritten                            the fields of a rewritten file, and what is left of an input by its first field
 --     PairTable                            each place of the pair table belongs to one pair, in row order
@@ -43,6 +44,7 @@ pub mod LastEntries
 pub mod LikeParts
 pub mod EmptyRun
 pub mod Printed
+pub mod FoldedLine
 pub mod Numerals
 pub mod LastLine
 pub mod Cutting
