@@ -2,7 +2,7 @@
 use mathlib.Core.Path.{_≡_, refl}
 use mathlib.Core.List.{List, [], _∷_, _++_}
 use Prim.Native.Nat.{ℕ}
-use lib.IntN.{ℤ, pos, negsuc}
+use lib.IntN.{pos, negsuc}
 use Rattle.whole.specs.Half.{half, halfSize}
 use Rattle.whole.specs.Round.{round, exact, inexact}
 use Rattle.whole.specs.Sum.{sumBy, uptoBy}

@@ -4,6 +4,7 @@
 --     HullFolds                            a hull that folds, by the weights and to the limit
 --     ThreeCoordinates, LastEntries        each entry of a step and of its half-widths tells; the last entry of each list decides
 --     LikeParts                            what each operation makes of the four parts of the radii, where none is 0
+--     CallCauses, CallLimits               the causes of each call on records in their order, and its limits
 --     Printed, FoldedLine                  the listing, and a line `folded` with numbers, byte for byte
 --     Numerals, LastLine                   numbers as text; how an output ends
 --     Cutting                              an input cut after its first field
@@ -42,6 +43,8 @@ pub mod RangedRun
 pub mod ThreeCoordinates
 pub mod LastEntries
 pub mod LikeParts
+pub mod CallCauses
+pub mod CallLimits
 pub mod EmptyRun
 pub mod Printed
 pub mod FoldedLine
