@@ -1,35 +1,35 @@
--- Demand 3 of the records that are returned. It follows from `enclosed` over the definitions, since each call returns the record of what they
--- give. The statement is `Enclosed` (specs/Enclosed.antt).
-use mathlib.Core.Path.{_≡_, refl, sym, _∙_, ap, subst}
-use mathlib.Core.List.{List, [], _∷_, map}
+-- Demand 3 of the records that are returned. It follows from `enclosed` over the definitions, since a call with room returns the record of
+-- what they give, and one without room the state as it came. The statement is `Enclosed` (specs/Enclosed.antt).
+use mathlib.Core.Path.{_≡_, refl, sym, subst}
+use mathlib.Core.List.{List, [], _∷_}
 use mathlib.Core.Option.{Option, none, some}
-use mathlib.Core.Bool.{Bool, true, false, cond}
+use mathlib.Core.Bool.{Bool, true, false, cond, true≢false}
 use Prim.Native.Nat.{ℕ, suc, _<_, _≤_}
 use native.Mathlib.Omega.{arith}
 use lib.Dec.{T}
-use lib.ListN.{length, getD}
+use lib.ListN.{length}
 use lib.IntN.{pos}
-use Rattle.whole.specs.Tab.{tab, getD-tab}
+use Rattle.whole.specs.Tab.{getD-tab}
 use Rattle.rational.specs.Rational.{ι, _≤ℚ_}
-use Rattle.model.specs.Set.{Zonotope, at}
+use Rattle.model.specs.Set.{at}
 use Rattle.model.specs.Run as Model
 use Rattle.model.specs.Run.{tag, body, kindOf, meant, refusal, accepted, acceptedBy, refusedAt, after, answer, outcome, firstField}
 use Rattle.model.specs.Points.{Vector, Point}
 use Rattle.model.specs.Motion as Motion
-use Rattle.model.specs.Motion.{Picks, Allowed, InBox, move, valuesAfter, markAfter}
+use Rattle.model.specs.Motion.{Picks, InBox, move, valuesAfter, markAfter}
 use Rattle.model.proofs.Shape.{counted}
 use Rattle.model.proofs.Sound.{Sound, begin-sound, after-sound}
 use Rattle.model.proofs.Enclosed as Over
-use Rattle.zonotope.specs.Record.{view, pack}
+use Rattle.zonotope.specs.Record.{pack}
 use Rattle.states.specs.declared.Fielded.{Fielded}
 use Rattle.states.specs.State.{recordOf}
-use Rattle.states.specs.Answer.{outcomeOf, boxOf, answerOf, accepts}
-use Rattle.run.specs.Enclosed.{Moment, begun, follow, InEnds, Kept, Always, Enclosed}
+use Rattle.states.specs.Answer.{outcomeOf, boxOf, answerOf, unfitAnswer, accepts}
+use Rattle.run.specs.Enclosed.{Call, short, fieldsTaken, Moment, follow, InEnds, Kept, Always, Enclosed}
 use Rattle.states.specs.Recorded.{means}
-use Rattle.run.proofs.Reached.{fielded-is}
+use Rattle.run.proofs.Reached.{fielded-is, short-is}
 use Rattle.run.proofs.Accepts.{accepts-is, inside-is, safe-is}
 
--- what a call with the record of u returns
+-- what a call with room and the record of u returns
 abbrev pub given : ℕ → Model.State → List ℕ → Fielded
 given place u f = record { answer = answerOf (answer place u f) (length f); state = recordOf (after u f) }
 
@@ -92,20 +92,33 @@ module _ (p : Picks) (m place : ℕ) (now : Motion.Moment) (s : Sound (now .stat
         not-unsafe = λ e. k .not-unsafe place (safe-is (outcome place u f) e);
       }
 
-always : (p : Picks) (places : ℕ → ℕ) (rests : List (List ℕ)) (m : ℕ) (now : Motion.Moment) → Sound (now .state)
-    → Motion.Always p m now (map firstField rests) → Always p places m (alongside now) rests
-unfolding Always Motion.Always Motion.follow answerOf
-always p places [] m now s h = tt
-always p places (rest ∷ rests) m now s h =
-    let f = firstField rest in let u = now .state in
-    subst (λ r. (T (accepts (r .answer .outcome)) → Kept f r (follow p m (alongside now) f r))
-    × Always p places (suc m) (follow p m (alongside now) f r) rests) (sym (fielded-is s (places m) rest))
-    (subst (λ then. (T (accepts (given (places m) u f .answer .outcome)) → Kept f (given (places m) u f) then)
-    × Always p places (suc m) then rests) (sym (follow-is p m (places m) now s f)) (
-      λ t. let a = subst T (accepts-is (places m) u f) t in kept p m (places m) now s f a (h .0 a),
-      always p places rests (suc m) (Motion.follow p m now f) (after-sound s f) (h .1),
-    ))
+-- what the definitions keep over the fields taken, the calls keep
+Follows : Picks → List Call → Type 0
+Follows p calls = (m : ℕ) (now : Motion.Moment) → Sound (now .state)
+    → Motion.Always p m now (fieldsTaken calls) → Always p m (alongside now) calls
+
+-- one more call, by whether a slice is too short
+one-more : (p : Picks) (c : Call) (cs : List Call) → Follows p cs → Follows p (c ∷ cs)
+unfolding Follows Always fieldsTaken Motion.Always Motion.follow follow answerOf unfitAnswer
+one-more p c cs later m now s h = go (short c) refl
+  where
+    go : (b : Bool) → short c ≡ b → Always p m (alongside now) (c ∷ cs)
+    go true e =
+        rw (e, short-is (c .place) (recordOf (now .state)) (c .rest)) (λ t. absurd t, λ _. refl, later m now s (rw e at h))
+    go false e =
+        let f = firstField (c .rest) in let q = rw e at h in
+        rw (e, fielded-is s (c .place) (c .rest), follow-is p m (c .place) now s f) (
+          λ t. let a = subst T (accepts-is (c .place) (now .state) f) t in kept p m (c .place) now s f a (q .0 a),
+          λ n. absurd (true≢false (sym n)),
+          later (suc m) (Motion.follow p m now f) (after-sound s f) (q .1),
+        )
+
+follows : (p : Picks) (calls : List Call) → Follows p calls
+unfolding Follows Always
+follows p [] = λ m now s h. tt
+follows p (c ∷ cs) = one-more p c cs (follows p cs)
 
 -- Demand 3.
 pub enclosed : Enclosed
-enclosed rests places p a = always p places rests 0 (Motion.beginning p) begin-sound (Over.enclosed (map firstField rests) p a)
+unfolding Follows
+enclosed calls p a = follows p calls 0 (Motion.beginning p) begin-sound (Over.enclosed (fieldsTaken calls) p a)

@@ -7,6 +7,7 @@
 --     Course    how far a run over a whole input has come, and what is still to come
 --     Turning   one turn of a run over a whole input, and the loop's invariant
 --     Enclosed  what is claimed of every motion: demand 3 of the records that are returned
+--     NeverUnfit  what is claimed of every call: which ones are refused
 pub mod Unfit
 pub mod Fitness
 pub mod Field
@@ -15,3 +16,4 @@ pub mod Whole
 pub mod Course
 pub mod Turning
 pub mod Enclosed
+pub mod NeverUnfit
