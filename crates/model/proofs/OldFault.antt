@@ -50,7 +50,7 @@ forgotten now = record {
   position = now .position;
 }
 
-abbrev OldAlways : Picks → ℕ → Moment → List (List ℕ) → Type 0
+abbrev pub OldAlways : Picks → ℕ → Moment → List (List ℕ) → Type 0
 OldAlways p m now [] = Unit {0}
 OldAlways p m now (f ∷ fs) =
     (T (accepted (forgotten now .state) f) → Kept (forgotten now .state) f (follow p m (forgotten now) f))

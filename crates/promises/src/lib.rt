@@ -1,0 +1,1 @@
+// Each promise of README, once more with its whole statement: proofs/. No code.
