@@ -1,1 +1,1 @@
-// Each promise of README, once more with its whole statement: proofs/. No code.
+// Each promise once more, with its whole statement: proofs/. No code.
