@@ -5,7 +5,14 @@ use Rattle.model.proofs.Listing.{listing}
 use Rattle.model.proofs.Printed.{listing-printed}
 use Rattle.model.proofs.TwoCoordinates.{two-coordinates}
 use Rattle.model.proofs.Refusals.{count-limits, range-limits, other-causes}
-use Rattle.model.proofs.Longest.{longest-run}
+use Rattle.model.proofs.Longest.{longest-run, longest-kept}
 use Rattle.model.proofs.HullRun.{two-outcomes, number-taken, hull-causes}
-use Rattle.model.proofs.RangedRun.{half-widths-add, ranged-causes}
-use Rattle.model.proofs.EmptyRun.{empty-causes, stored-file, damaged-file}
+use Rattle.model.proofs.RangedRun.{half-widths-add, zero-widths-anywhere, ranged-causes}
+use Rattle.model.proofs.EmptyRun.{empty-causes, stored-file, stored-kept, damaged-file}
+use Rattle.model.proofs.ThreeCoordinates.{to-three, ranged-to-three}
+use Rattle.model.proofs.LastEntries.{last-of-steps, last-of-others}
+use Rattle.model.proofs.HullFolds.{hull-folds}
+use Rattle.model.proofs.LikeParts.{like-parts}
+use Rattle.model.proofs.FoldedLine.{folds-printed}
+use Rattle.model.proofs.CallCauses.{order-of-sums, order-of-others, order-of-steps}
+use Rattle.model.proofs.CallLimits.{identifier-limits, next-limits, room-first, slices}

@@ -8,15 +8,21 @@ use Rattle.model.specs.Hull.{hull}
 use Rattle.model.specs.Points.{Vector, Point}
 use Rattle.model.specs.Motion.{Picks, Allowed, Always, beginning, withFresh, between}
 use Rattle.model.specs.Between.{Outcomes}
+use Rattle.model.specs.Reached.{Parts, picks, sixFields, Lands}
 use Rattle.model.proofs.OldFault.{OldAlways}
 use Rattle.model.proofs.Enclosed as Enclosed
 use Rattle.model.proofs.OldFault as OldFault
 use Rattle.model.proofs.HullPoint as HullPoint
+use Rattle.model.proofs.Reached as Reached
 
 -- Demand 3, entire: whatever bytes the fields hold, after each accepted field every motion that picks inside its limits is a point of the
 -- current set and in the answered box, and not in a region that is called safe.
 pub enclosed : (fields : List (List ℕ)) (p : Picks) → Allowed p fields → Always p 0 (beginning p) fields
 enclosed = Enclosed.enclosed
+
+-- In a run with each kind of pick every pick may take any part of its limit, and goes where exact arithmetic says.
+pub reached : (t : Picks) → Parts t → Allowed (picks t) sixFields × Lands t
+reached = Reached.reached
 
 -- With a next identifier that doesn't rise, that is false.
 pub old-edition-loses : ¬ ((fields : List (List ℕ)) (p : Picks) → Allowed p fields → OldAlways p 0 (beginning p) fields)

@@ -17,11 +17,10 @@ use Rattle.model.specs.Finish.{finish, Core, foldUntil, folds}
 use Rattle.model.specs.Step.{Step, rounded, raw, step, inexactAt}
 use Rattle.model.specs.Operations.{joined, tiedSum, renumbered, independentSum, disturb}
 use Rattle.model.specs.Ranged.{Widths, rangedStep}
-use Rattle.model.specs.Body.{givenWidths}
-use Rattle.model.specs.Field.{meaning, Kind}
+use Rattle.model.specs.Run.{State}
 use Rattle.model.specs.Points.{Vector, Point, InRange, valueAt}
 use Rattle.model.specs.Motion.{image}
-use Rattle.model.specs.Precision.{FoldsNothing, Split, Renumbers, Moved, NoWidths}
+use Rattle.model.specs.Precision.{FoldsNothing, Split, Renumbers, Moved, NoWidths, WithZeroWidths, SameField}
 use Rattle.model.proofs.FirstBySize.{FirstBySize}
 use Rattle.model.proofs.Shape.{Valid}
 use Rattle.model.proofs.Finished.{Ready, Finished}
@@ -64,9 +63,7 @@ pub zero-widths : (weights : List ℕ) (p : Step) (d : Widths) (s : Zonotope) �
 zero-widths = Ranged.zero-widths
 
 -- A field of tag 9 with such half-widths leaves and answers what the step with its entries does.
-pub zero-widths-field : (b : List ℕ) (next : ℕ) (s : Zonotope) → NoWidths (givenWidths b)
-    → (meaning Kind.rangedStep b next s .result ≡ meaning Kind.step b next s .result)
-    × (meaning Kind.rangedStep b next s .outcome ≡ meaning Kind.step b next s .outcome)
+pub zero-widths-field : (st : State) (f g : List ℕ) → WithZeroWidths f g → SameField st f g
 zero-widths-field = Ranged.zero-widths-field
 
 -- A valid set is a fixed point of finishing.

@@ -20,7 +20,7 @@ use Rattle.model.specs.Rewrite.{emptyDisturbance, rewritten}
 use Rattle.model.specs.Text.{decimal, signedDecimal, digit, ascii, printed, foldedLine, endLine}
 use Rattle.model.specs.Library.{Given, reduceRefusal, ofRadii}
 use Rattle.model.specs.Origin.{ruledOver, TotalsAre}
-use Rattle.model.specs.OldRun.{oldRun, Kept}
+use Rattle.model.specs.OldRun.{oldRun, AsNow, OnlyCounted, Kept}
 use Rattle.model.proofs.Numerals.{readBack, readSigned}
 use Rattle.model.proofs.LastLine.{linesOf, unrefused}
 use Rattle.model.proofs.Shape.{Valid}
@@ -28,6 +28,7 @@ use Rattle.model.proofs.Sound as Sound
 use Rattle.model.proofs.Origin as Origin
 use Rattle.model.proofs.Narrower as Narrower
 use Rattle.model.proofs.EmptyRun as EmptyRun
+use Rattle.model.proofs.OldField as OldField
 use Rattle.model.proofs.Kept as ModelKept
 use Rattle.model.proofs.Rewritten as Rewritten
 use Rattle.model.proofs.Numerals as Numerals
@@ -70,6 +71,23 @@ order-of-causes = EmptyRun.order-of-causes
 pub order-of-radii : (n : ℕ) (radii : List ℕ) (dimension : ℕ)
     → map (λ (c : Cause). c .number) (ofRadii n radii dimension) ≡ 4 ∷ 3 ∷ 5 ∷ 6 ∷ 14 ∷ []
 order-of-radii = EmptyRun.order-of-radii
+
+-- The old run refused, left and answered what the run now does, but where that refuses with 14.
+pub old-otherwise : (st : State) (f : List ℕ) → ¬ (refusal st f ≡ some 14) → AsNow st f
+old-otherwise = OldField.old-otherwise
+
+-- Only an empty disturbance is refused with 14.
+pub only-empty : (st : State) (f : List ℕ) → refusal st f ≡ some 14 → emptyDisturbance f ≡ true
+only-empty = OldField.only-empty
+
+-- Fields without an empty disturbance ran as they do now.
+pub old-run-otherwise : (fs : List (List ℕ)) (st : State) → any emptyDisturbance fs ≡ false → oldRun fs st ≡ run fs st
+old-run-otherwise = OldField.old-run-otherwise
+
+-- In an old run that met no refusal, a field that is refused with 14 now was accepted, and left all but the count as it was.
+pub old-empty : (fs : List (List ℕ)) (f : List ℕ)
+    → (let st = oldRun fs begin in st .over ≡ false → refusal st f ≡ some 14 → OnlyCounted st f)
+old-empty = OldField.old-empty
 
 -- Where the old run met no refusal, the run of the rewritten file meets none, and the other fields leave and answer what they did.
 pub keeps-results : (input : List ℕ) → oldRun (fields input) begin .over ≡ false → Kept input
