@@ -9,7 +9,8 @@ use lib.ListN.{length, take}
 use Rattle.console.specs.declared.Input.{Input}
 use Rattle.console.specs.declared.Output.{Output}
 use Rattle.console.specs.Trace.{took, wrote}
-use Rattle.console.specs.History.{Read, tookAll, bytesOf, Write, wroteAll, handedOver, someReadFailed, someWriteFailed, EndRead, ReadFailed, WriteFailed}
+use Rattle.console.specs.History.{Read, tookAll, bytesOf, someReadFailed, EndRead, ReadFailed}
+use Rattle.console.specs.History.{Write, wroteAll, handedOver, someWriteFailed, WriteFailed}
 
 -- ---- a read
 pub took-more : (i : Input) (rs : List Read) (r : Read) → tookAll i (rs ++ (r ∷ [])) ≡ took (tookAll i rs) (r .asked) (r .bytes) (r .failed)

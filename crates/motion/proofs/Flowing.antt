@@ -19,7 +19,8 @@ use Rattle.console.specs.declared.Filled.{Filled}
 use Rattle.console.specs.declared.Output.{Output}
 use Rattle.console.specs.Trace.{noInput, noOutput, took, wrote, FilledFrom}
 use Rattle.console.specs.History.{Read, tookAll, bytesOf, Write, wroteAll, handedOver, someReadFailed, someWriteFailed}
-use Rattle.console.proofs.Traces.{took-more, bytes-more, reads-failed, met-end, met-failure, wrote-more, handed-more, writes-failed, not-whole}
+use Rattle.console.proofs.Traces.{took-more, bytes-more, reads-failed, met-end, met-failure}
+use Rattle.console.proofs.Traces.{wrote-more, handed-more, writes-failed, not-whole}
 use Rattle.feeding.specs.declared.Progress.{Progress}
 use Rattle.feeding.specs.declared.Fed.{Fed}
 use Rattle.feeding.specs.Fed as Feeding
@@ -81,7 +82,8 @@ room-left held buffer B h e l k =
 
 -- B was filled after what is held, and P follows it
 module _ (f : Flow) (buffer B P : List ℕ) (a : Along f buffer) (on : f .ended ≡ false) (going : f .progress .done ≡ false)
-    (good : f .unread ≡ false) (brief : cut (heldBytes f buffer) ≡ true) (r : Filled) (filled : FilledFrom (f .input) B r) (some : 0 < length B) where
+    (good : f .unread ≡ false) (brief : cut (heldBytes f buffer) ≡ true) (r : Filled)
+    (filled : FilledFrom (f .input) B r) (some : 0 < length B) where
   abbrev bytes : List ℕ
   bytes = take (r .count) B
 

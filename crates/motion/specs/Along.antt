@@ -7,7 +7,8 @@ use lib.ListN.{length, take}
 use Rattle.model.specs.Run.{cut}
 use Rattle.model.specs.Text.{printed}
 use Rattle.console.specs.Trace.{noInput, noOutput}
-use Rattle.console.specs.History.{Read, tookAll, bytesOf, Write, wroteAll, handedOver, someReadFailed, someWriteFailed, EndRead, ReadFailed, WriteFailed}
+use Rattle.console.specs.History.{Read, tookAll, bytesOf, someReadFailed, EndRead, ReadFailed}
+use Rattle.console.specs.History.{Write, wroteAll, handedOver, someWriteFailed, WriteFailed}
 use Rattle.feeding.specs.Fed as Feeding
 use Rattle.feeding.specs.Reached.{Reached, Placed, remaining, turnsLeft}
 use Rattle.motion.specs.declared.Flow.{Flow}

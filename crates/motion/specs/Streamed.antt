@@ -5,7 +5,8 @@ use mathlib.Core.Bool.{true, false}
 use Prim.Native.Nat.{ℕ}
 use Rattle.model.specs.Text.{refusalLine, foldedLine, endLine, printed}
 use Rattle.console.specs.Trace.{noInput, noOutput}
-use Rattle.console.specs.History.{Read, tookAll, bytesOf, Write, wroteAll, handedOver, someReadFailed, someWriteFailed, EndRead, ReadFailed, WriteFailed}
+use Rattle.console.specs.History.{Read, tookAll, bytesOf, someReadFailed, EndRead, ReadFailed}
+use Rattle.console.specs.History.{Write, wroteAll, handedOver, someWriteFailed, WriteFailed}
 use Rattle.motion.specs.declared.Flow.{Flow}
 
 -- the lines that close an output: the totals and the end of a run, or a refusal

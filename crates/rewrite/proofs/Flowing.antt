@@ -16,7 +16,8 @@ use Rattle.console.specs.declared.Filled.{Filled}
 use Rattle.console.specs.declared.Output.{Output}
 use Rattle.console.specs.Trace.{noInput, noOutput, took, wrote, FilledFrom}
 use Rattle.console.specs.History.{Read, tookAll, bytesOf, Write, wroteAll, handedOver, someReadFailed, someWriteFailed}
-use Rattle.console.proofs.Traces.{took-more, bytes-more, reads-failed, met-end, met-failure, wrote-more, handed-more, writes-failed, not-whole}
+use Rattle.console.proofs.Traces.{took-more, bytes-more, reads-failed, met-end, met-failure}
+use Rattle.console.proofs.Traces.{wrote-more, handed-more, writes-failed, not-whole}
 use Rattle.rewriting.specs.declared.Held.{Held}
 use Rattle.rewriting.specs.declared.Given.{Given}
 use Rattle.rewriting.specs.Given as Rewriting

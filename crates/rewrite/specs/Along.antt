@@ -7,7 +7,8 @@ use lib.Dec.{eqb}
 use lib.ListN.{length}
 use Rattle.model.specs.Rewrite.{rewritten}
 use Rattle.console.specs.Trace.{noInput, noOutput}
-use Rattle.console.specs.History.{Read, tookAll, bytesOf, Write, wroteAll, handedOver, someReadFailed, someWriteFailed, EndRead, ReadFailed, WriteFailed}
+use Rattle.console.specs.History.{Read, tookAll, bytesOf, someReadFailed, EndRead, ReadFailed}
+use Rattle.console.specs.History.{Write, wroteAll, handedOver, someWriteFailed, WriteFailed}
 use Rattle.rewriting.specs.declared.Held.{Held}
 use Rattle.rewriting.specs.Given as Rewriting
 use Rattle.rewriting.specs.Given.{heldBytes, Handed, manyBytes}

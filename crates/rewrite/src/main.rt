@@ -48,8 +48,8 @@ fn main() {
     }
 }
 
-// Reads and writes until the input has ended, or a read or a write fails. A proved loop has to end, and nothing says that an input does: so the loop
-// counts its reads down, from a number that no run uses up.
+// Reads and writes until the input has ended, or a read or a write fails. A proved loop has to end, and nothing says that an input does:
+// so the loop counts its reads down, from a number that no run uses up.
 fn run() -> Flow
     ensures { λ r. ⌜ Streamed r ⌝ }
 {

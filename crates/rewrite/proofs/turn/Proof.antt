@@ -54,8 +54,8 @@ returns : tie.Need-returns
 returns c =
     let k = c .before .before .before .before .before .before .before in
     let s = started k in
-    turn-stopped (s .args .f) (k .fill .last .1 .0) (s .pre .0) (s .pre .1) (s .pre .5) (s .pre .6) (k .fill .result) (k .fill .ensures) (c .before .if1 .taken)
-    (s .pre .2)
+    turn-stopped (s .args .f) (k .fill .last .1 .0) (s .pre .0) (s .pre .1) (s .pre .5) (s .pre .6) (k .fill .result)
+    (k .fill .ensures) (c .before .if1 .taken) (s .pre .2)
 
 slice-reshare-prefix-pass : tie.Need-slice-reshare-prefix-pass
 slice-reshare-prefix-pass c = search needs
