@@ -3,7 +3,7 @@
 use mathlib.Core.Path.{_≡_}
 use mathlib.Core.List.{List, map, _∷_, [], _++_}
 use mathlib.Core.Option.{some}
-use mathlib.Core.Bool.{false, cond}
+use mathlib.Core.Bool.{true, false, cond}
 use Prim.Native.Nat.{ℕ, _<_, _≤_, _+_, _-_}
 use lib.Dec.{eqb}
 use lib.ListN.{getD, length}
