@@ -112,6 +112,17 @@ left-out n (c ∷ cs) h = go (eqb (c .number) n) (c .holds) refl refl h (left-ou
     go false true p q h ih = rw q
     go false false p q h ih = rw q (ih h)
 
+-- what holds of those that pass a test holds of each that passes it
+those-all : {A : Type 0} {P : A → Type 0} {p : A → Bool} (l : List A) → All P (those p l) → All (λ a. p a ≡ true → P a) l
+unfolding those
+those-all [] h = Sum.none
+those-all {P = P} {p = p} (a ∷ l) h = go (p a) refl h (those-all l)
+  where
+    go : (b : Bool) → p a ≡ b → All P (cond b (a ∷ those p l) (those p l)) → (All P (those p l) → All (λ a. p a ≡ true → P a) l)
+        → All (λ a. p a ≡ true → P a) (a ∷ l)
+    go true e (more h t) ih = more (λ _. h) (ih t)
+    go false e t ih = more (λ q. absurd (true≢false (sym q ∙ e))) (ih t)
+
 -- the first cause holds where its number is answered and no other that holds has it
 first-holds : (c : Cause) (cs : List Cause) (n : ℕ) → any (λ c. eqb (c .number) n && c .holds) cs ≡ false → firstOf (c ∷ cs) ≡ some n
     → c .holds ≡ true
@@ -225,10 +236,11 @@ module _ (st : State) (f : List ℕ) where
 -- the tests of the old run that an empty disturbance passed
 pub old-placed : (st : State) (f : List ℕ) → oldRefusal st f ≡ none
     → (misplaced (st .count) f ≡ false) × (meant st f .wrongDimension ≡ false)
-unfolding oldCauses causes those
-old-placed st f e = go (no-cause (oldCauses st f) e) where
-  go : All (λ c. c .holds ≡ false) (oldCauses st f) → (misplaced (st .count) f ≡ false) × (meant st f .wrongDimension ≡ false)
-  go (more late (more place (more end (more short (more counts (more bytes (more sizes rest))))))) = (place, sizes)
+unfolding oldCauses causes
+old-placed st f e = go (those-all (causes st f) (no-cause (oldCauses st f) e)) where
+  go : All (λ c. not (eqb (c .number) 14) ≡ true → c .holds ≡ false) (causes st f)
+      → (misplaced (st .count) f ≡ false) × (meant st f .wrongDimension ≡ false)
+  go (more late (more place (more end (more short (more counts (more bytes (more sizes rest))))))) = (place refl, sizes refl)
 
 -- it came after the start set
 pub after-start : (st : State) (f : List ℕ) → Emptied f → misplaced (st .count) f ≡ false → 0 < st .count
