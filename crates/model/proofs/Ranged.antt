@@ -17,7 +17,7 @@ use Rattle.whole.specs.Tab.{tab, any, tab-cong, length-tab, getD-tab}
 use Rattle.rational.specs.Sum as Sum
 use Rattle.rational.specs.Sum.{All, more, All-imp, All-map}
 use Rattle.model.specs.Set.{Zonotope, at, plusℕ, span}
-use Rattle.model.specs.Limits.{standardWeights, maxEntry, maxConstant, lastTag, lastField}
+use Rattle.model.specs.Limits.{standardWeights, maxEntry, maxConstant, lastField}
 use Rattle.model.specs.Step as Step
 use Rattle.model.specs.Step.{Step, raw, settled}
 use Rattle.model.specs.Operations.{disturb, box}
@@ -258,8 +258,8 @@ same-place : (n : ℕ) (f g : List ℕ) → tag f ≡ 9 → tag g ≡ 2 → misp
 unfolding misplaced
 same-place n [] g p q = absurd (omega arith)
 same-place n (t ∷ f) [] p q = absurd (omega arith)
-same-place zero (t ∷ f) (u ∷ g) p q = ap (λ t. not (eqb t 1)) p ∙ sym (ap (λ t. not (eqb t 1)) q)
-same-place (suc n) (t ∷ f) (u ∷ g) p q = ap (λ t. ltb t 2 || ltb lastTag t) p ∙ sym (ap (λ t. ltb t 2 || ltb lastTag t) q)
+same-place zero (t ∷ f) (u ∷ g) p q = ap (λ t. misplaced 0 (t ∷ [])) p ∙ sym (ap (λ t. misplaced 0 (t ∷ [])) q)
+same-place (suc n) (t ∷ f) (u ∷ g) p q = ap (λ t. misplaced (suc n) (t ∷ [])) p ∙ sym (ap (λ t. misplaced (suc n) (t ∷ [])) q)
 
 module _ (st : State) (f g : List ℕ) (h : WithZeroWidths f g) where
   f-means : meant st f ≡ meaning rangedStep (ranged (body g)) (st .next) (current st)

@@ -20,9 +20,12 @@ module _ (c b : List ℕ) (like : (i : ℕ) → byte c i ≡ byte b i) where
   number-like zero i = refl
   number-like (suc k) i = ap₂ (λ x y. x + 256 * y) (like i) (number-like k (i + 1))
 
-  pub words-like : (i k : ℕ) → words c i k ≡ words b i k
+  word-like : (i : ℕ) → word c i ≡ word b i
   unfolding word
-  words-like i k = tab-cong k _ _ (λ j _. ap (signed (2 ^ 31)) (number-like 4 (i + 4 * j)))
+  word-like i = ap (signed (2 ^ 31)) (number-like 4 i)
+
+  pub words-like : (i k : ℕ) → words c i k ≡ words b i k
+  words-like i k = tab-cong k _ _ (λ j _. word-like _)
 
   pub step-like : givenStep c ≡ givenStep b
   unfolding givenStep
@@ -48,6 +51,9 @@ number-past zero b i l = refl
 number-past (suc k) b i l =
     ap₂ (λ x y. x + 256 * y) (List·getD-eq-default b 0 {n = i} l) (number-past k b (i + 1) (omega arith))
 
-pub words-past : (b : List ℕ) (i k : ℕ) → length b ≤ i → All (λ z. z ≡ pos 0) (words b i k)
+word-past : (b : List ℕ) (i : ℕ) → length b ≤ i → word b i ≡ pos 0
 unfolding word
-words-past b i k l = all-tab k _ (λ j _. ap (signed (2 ^ 31)) (number-past 4 b (i + 4 * j) (omega arith)))
+word-past b i l = ap (signed (2 ^ 31)) (number-past 4 b i l)
+
+pub words-past : (b : List ℕ) (i k : ℕ) → length b ≤ i → All (λ z. z ≡ pos 0) (words b i k)
+words-past b i k l = all-tab k _ (λ j _. word-past b _ (omega arith))
