@@ -5,7 +5,7 @@ use mathlib.Core.Bool.{Bool, true, false, not, _||_}
 use Prim.Native.Nat.{ℕ, _<_}
 use Rattle.console.specs.declared.Input.{Input}
 use Rattle.console.specs.declared.Output.{Output}
-use Rattle.console.specs.Trace.{took, wrote}
+use Rattle.console.specs.Trace.{noInput, took, noOutput, wrote}
 
 -- a call that read: how many bytes were asked for at most, which came, and whether the read failed
 pub record Read : Type 0 where
@@ -65,3 +65,14 @@ pub record WriteFailed (ws : List Write) : Type 0 where
   pub before : List Write
   pub bytes : List ℕ
   pub last : ws ≡ before ++ (record { bytes = bytes; whole = false } ∷ [])
+
+-- What a program says of its reads and writes where these were made, in this order: that a read or a write failed exactly where one did,
+-- which is then the last, and that the input has ended only where a read met the end.
+pub record Told (input : Input) (output : Output) (ended unread failed : Bool) (reads : List Read) (writes : List Write) : Type 0 where
+  pub input-is : input ≡ tookAll noInput reads
+  pub output-is : output ≡ wroteAll noOutput writes
+  pub unread-is : unread ≡ someReadFailed reads
+  pub failed-is : failed ≡ someWriteFailed writes
+  pub read-failed : unread ≡ true → ReadFailed reads
+  pub write-failed : failed ≡ true → WriteFailed writes
+  pub end-read : ended ≡ true → EndRead reads

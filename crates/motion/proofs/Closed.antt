@@ -15,7 +15,7 @@ use Rattle.model.specs.Text.{foldedLine, endLine, closing, linesFrom}
 use Rattle.model.specs.Rest.{fieldsLeft, printedFrom}
 use Rattle.model.proofs.Cutting.{fieldsAfter, first-left, last-line}
 use Rattle.model.proofs.LastLine.{refusal-is-last}
-use Rattle.motion.specs.Streamed.{Closing, ended, refused}
+use Rattle.motion.specs.Streamed.{Closes, ended, refused}
 
 -- a cut field is all that is left
 cut-first : (rest : List ℕ) → cut rest ≡ true → firstField rest ≡ rest
@@ -38,20 +38,20 @@ cut-refused st f e = go (ltb lastField (st .count)) (misplaced (st .count) f) (c
     go false false true e = (1, refl)
     go false false false e = absurd (true≢false (sym e))
 
-pub cut-closes : (place : ℕ) (st : State) (rest : List ℕ) → st .over ≡ false → cut rest ≡ true → Closing (printedFrom place st rest)
+pub cut-closes : (place : ℕ) (st : State) (rest : List ℕ) → st .over ≡ false → cut rest ≡ true → Closes (printedFrom place st rest)
 unfolding closing
 cut-closes place st rest on e = go rest (st .count) refl e
   where
-    field-left : (rest : List ℕ) → (length rest ≡ 0 → st .count ≡ 0) → cut rest ≡ true → Closing (printedFrom place st rest)
+    field-left : (rest : List ℕ) → (length rest ≡ 0 → st .count ≡ 0) → cut rest ≡ true → Closes (printedFrom place st rest)
     field-left rest h e =
         let c = cut-refused st (firstField rest) (ap cut (cut-first rest e) ∙ e) in
-        subst Closing (sym (ap (linesFrom place st) (first-left (st .count) rest h)
+        subst Closes (sym (ap (linesFrom place st) (first-left (st .count) rest h)
         ∙ refusal-is-last place st (firstField rest) (fieldsAfter rest) (c .0) on (c .1)))
         (refused (st .count) (c .0) place)
 
-    go : (rest : List ℕ) (n : ℕ) → st .count ≡ n → cut rest ≡ true → Closing (printedFrom place st rest)
+    go : (rest : List ℕ) (n : ℕ) → st .count ≡ n → cut rest ≡ true → Closes (printedFrom place st rest)
     go [] (suc n) p e =
-        subst Closing (sym (last-line place st (omega arith) ∙ ap (λ b. cond b [] (foldedLine (st .folded) ++ endLine (st .count - 1))) on))
+        subst Closes (sym (last-line place st (omega arith) ∙ ap (λ b. cond b [] (foldedLine (st .folded) ++ endLine (st .count - 1))) on))
         (ended (st .folded) (st .count - 1))
     go [] zero p e = field-left [] (λ _. p) e
     go (t ∷ rest) n p e = field-left (t ∷ rest) (λ h. absurd (omega arith)) e

@@ -17,10 +17,9 @@ use Rattle.states.specs.State.{viewed}
 use Rattle.console.specs.declared.Input.{Input}
 use Rattle.console.specs.declared.Filled.{Filled}
 use Rattle.console.specs.declared.Output.{Output}
-use Rattle.console.specs.Trace.{noInput, noOutput, took, wrote, FilledFrom}
-use Rattle.console.specs.History.{Read, tookAll, bytesOf, Write, wroteAll, handedOver, someReadFailed, someWriteFailed}
-use Rattle.console.proofs.Traces.{took-more, bytes-more, reads-failed, met-end, met-failure}
-use Rattle.console.proofs.Traces.{wrote-more, handed-more, writes-failed, not-whole}
+use Rattle.console.specs.Trace.{noInput, noOutput, wrote, FilledFrom}
+use Rattle.console.specs.History.{Read, bytesOf, Write, handedOver}
+use Rattle.console.proofs.Traces.{bytes-more, handed-more, told-nothing, told-read, told-wrote}
 use Rattle.feeding.specs.declared.Progress.{Progress}
 use Rattle.feeding.specs.declared.Fed.{Fed}
 use Rattle.feeding.specs.Fed as Feeding
@@ -45,21 +44,15 @@ flow-begun e g h = ap₃ e g h
     ap₃ e g h = rw (e, g, h)
 
 pub along-begins : (buffer : List ℕ) → Along startingFlow buffer
-unfolding tookAll wroteAll bytesOf handedOver someReadFailed someWriteFailed
+unfolding bytesOf handedOver
 along-begins buffer = record {
   reached = starting-reached;
   placed = λ e. omega arith;
   within = omega arith;
   reads = [];
   writes = [];
-  input = refl;
-  output = refl;
-  unread-is = refl;
-  failed-is = refl;
-  end-read = λ e. absurd (true≢false (sym e));
-  read-failed = λ e. absurd (true≢false (sym e));
+  told = told-nothing;
   stopped = λ e. absurd (true≢false (sym e));
-  write-failed = λ e. absurd (true≢false (sym e));
   prints = λ more last. sym (starting-prints more);
 }
 
@@ -140,18 +133,12 @@ module _ (f : Flow) (buffer B P : List ℕ) (a : Along f buffer) (on : f .ended 
       );
       reads = a .reads ++ (this ∷ []);
       writes = a .writes;
-      input = filled .next ∙ ap (λ i. took i (length B) bytes (r .failed)) (a .input) ∙ sym (took-more noInput (a .reads) this);
-      output = a .output;
-      unread-is = sym (reads-failed (a .reads) this ∙ ap (_|| r .failed) (sym (a .unread-is) ∙ good));
-      failed-is = a .failed-is;
-      end-read = λ e. let h = both (eqb (r .count) 0) (r .failed) e in met-end (a .reads) B (r .count) (r .failed) some (h .0) (h .1);
-      read-failed = λ e. met-failure (a .reads) B (r .count) (r .failed) (filled .none e) e;
+      told = told-read (a .told) good B r filled some;
       stopped = λ e. record {
         brief = ap cut (none-came e) ∙ brief;
         going = going;
         more = ap (λ b. eqb (r .count) 0 && not b) e ∙ and-false (eqb (r .count) 0);
       };
-      write-failed = a .write-failed;
       prints = read-prints;
     };
     progress = refl;
@@ -160,11 +147,6 @@ module _ (f : Flow) (buffer B P : List ℕ) (a : Along f buffer) (on : f .ended 
     more = λ came n. omega (arith, eqb-false (r .count) 0 (some-came (eqb (r .count) 0) (r .failed) (or-left (next .ended) _ n) came));
   }
     where
-      both : (x y : Bool) → x && not y ≡ true → (x ≡ true) × (y ≡ false)
-      both true false e = (refl, refl)
-      both true true e = absurd (true≢false (sym e))
-      both false y e = absurd (true≢false (sym e))
-
       some-came : (x y : Bool) → x && not y ≡ false → y ≡ false → x ≡ false
       some-came true true e g = absurd (true≢false g)
       some-came true false e g = e
@@ -238,14 +220,8 @@ module _ (f g : Flow) (buffer : List ℕ) (a : Along g buffer) (room : ℕ) {out
       within = omega (arith, a .within);
       reads = a .reads;
       writes = a .writes ++ (now-written ∷ []);
-      input = a .input;
-      output = sent ∙ ap₂ (λ x y. wrote x y whole) (a .output) text-written ∙ sym (wrote-more noOutput (a .writes) now-written);
-      unread-is = sym came ∙ a .unread-is;
-      failed-is = sym (writes-failed (a .writes) now-written ∙ ap (_|| not whole) (sym (a .failed-is) ∙ went));
-      end-read = a .end-read;
-      read-failed = λ e. absurd (true≢false (sym e));
+      told = told-wrote (a .told) came went (t .text) whole (sent ∙ ap (λ y. wrote (g .output) y whole) text-written);
       stopped = λ e. absurd (true≢false (sym e));
-      write-failed = not-whole (a .writes) (t .text) whole;
       prints = turn-prints;
     }
 
@@ -330,7 +306,7 @@ left-open : (f : Flow) (buffer : List ℕ) → Along f buffer → (reads : List 
 unfolding viewed
 left-open f buffer a reads writes e s = record {
   last = printedFrom (f .progress .place) (viewed (f .progress .state)) (heldBytes f buffer);
-  closing = cut-closes (f .progress .place) (viewed (f .progress .state)) (heldBytes f buffer) (a .reached .going (s .going)) (s .brief);
+  closes = cut-closes (f .progress .place) (viewed (f .progress .state)) (heldBytes f buffer) (a .reached .going (s .going)) (s .brief);
   all-but =
       ap printed (sym (append-nil (bytesOf reads))) ∙ e
       ∙ ap₂ (λ b l. handedOver writes ++ cond b [] (printedFrom (f .progress .place) (viewed (f .progress .state)) l)) (s .going)
@@ -341,13 +317,7 @@ pub streamed : (f : Flow) (buffer : List ℕ) → Along f buffer → isOver f �
 streamed f buffer a over = record {
   reads = a .reads;
   writes = a .writes;
-  input = a .input;
-  output = a .output;
-  unread-is = a .unread-is;
-  failed-is = a .failed-is;
-  read-failed = a .read-failed;
-  write-failed = a .write-failed;
-  end-read = a .end-read;
+  told = a .told;
   all = λ good went more last.
       sym (a .prints more last ∙ nothing-left f (heldBytes f buffer ++ more) (a .writes) (third (f .failed) (f .unread) _ over went good));
   unclosed = λ e. left-open f buffer a (a .reads) (a .writes) (a .prints [] (λ _. refl)) (a .stopped e);

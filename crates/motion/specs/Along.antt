@@ -7,8 +7,7 @@ use lib.ListN.{length, take}
 use Rattle.model.specs.Run.{cut}
 use Rattle.model.specs.Text.{printed}
 use Rattle.console.specs.Trace.{noInput, noOutput}
-use Rattle.console.specs.History.{Read, tookAll, bytesOf, someReadFailed, EndRead, ReadFailed}
-use Rattle.console.specs.History.{Write, wroteAll, handedOver, someWriteFailed, WriteFailed}
+use Rattle.console.specs.History.{Read, bytesOf, Write, handedOver, Told}
 use Rattle.feeding.specs.Fed as Feeding
 use Rattle.feeding.specs.Reached.{Reached, Placed, remaining, turnsLeft}
 use Rattle.motion.specs.declared.Flow.{Flow}
@@ -42,14 +41,8 @@ pub record Along (f : Flow) (buffer : List ℕ) : Type 0 where
   pub within : f .held ≤ length buffer
   pub reads : List Read
   pub writes : List Write
-  pub input : f .input ≡ tookAll noInput reads
-  pub output : f .output ≡ wroteAll noOutput writes
-  pub unread-is : f .unread ≡ someReadFailed reads
-  pub failed-is : f .failed ≡ someWriteFailed writes
-  pub end-read : f .ended ≡ true → EndRead reads
-  pub read-failed : f .unread ≡ true → ReadFailed reads
+  pub told : Told (f .input) (f .output) (f .ended) (f .unread) (f .failed) reads writes
   pub stopped : f .unread ≡ true → Stopped f buffer
-  pub write-failed : f .failed ≡ true → WriteFailed writes
   -- what was written, and what is still to be printed
   pub prints : (more : List ℕ) → (f .ended ≡ true → more ≡ [])
       → printed (bytesOf reads ++ more) ≡ handedOver writes ++ remaining (f .progress) (heldBytes f buffer ++ more)

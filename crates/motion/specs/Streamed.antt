@@ -4,36 +4,26 @@ use mathlib.Core.List.{List, [], _++_}
 use mathlib.Core.Bool.{true, false}
 use Prim.Native.Nat.{ℕ}
 use Rattle.model.specs.Text.{refusalLine, foldedLine, endLine, printed}
-use Rattle.console.specs.Trace.{noInput, noOutput}
-use Rattle.console.specs.History.{Read, tookAll, bytesOf, someReadFailed, EndRead, ReadFailed}
-use Rattle.console.specs.History.{Write, wroteAll, handedOver, someWriteFailed, WriteFailed}
+use Rattle.console.specs.History.{Read, bytesOf, Write, handedOver, Told}
 use Rattle.motion.specs.declared.Flow.{Flow}
 
 -- the lines that close an output: the totals and the end of a run, or a refusal
-pub data Closing : List ℕ → Type 0 where
-  ended : (totals : List ℕ) (field : ℕ) → Closing (foldedLine totals ++ endLine field)
-  refused : (field number place : ℕ) → Closing (refusalLine field number place)
+pub data Closes : List ℕ → Type 0 where
+  ended : (totals : List ℕ) (field : ℕ) → Closes (foldedLine totals ++ endLine field)
+  refused : (field number place : ℕ) → Closes (refusalLine field number place)
 
 -- the output is what is printed for the input but for the lines that close it
 pub record Unclosed (input output : List ℕ) : Type 0 where
   pub last : List ℕ
-  pub closing : Closing last
+  pub closes : Closes last
   pub all-but : printed input ≡ output ++ last
 
 -- The program is over.
 pub record Streamed (f : Flow) : Type 0 where
   pub reads : List Read
   pub writes : List Write
-  -- these reads and these writes were made, in this order
-  pub input : f .input ≡ tookAll noInput reads
-  pub output : f .output ≡ wroteAll noOutput writes
-  -- it says that a read or a write failed exactly where one did, which is then the last, and that the input has ended only where a read met
-  -- the end
-  pub unread-is : f .unread ≡ someReadFailed reads
-  pub failed-is : f .failed ≡ someWriteFailed writes
-  pub read-failed : f .unread ≡ true → ReadFailed reads
-  pub write-failed : f .failed ≡ true → WriteFailed writes
-  pub end-read : f .ended ≡ true → EndRead reads
+  -- these reads and these writes were made, and what it says of them
+  pub told : Told (f .input) (f .output) (f .ended) (f .unread) (f .failed) reads writes
   -- Where neither failed, what was written is what is printed for what was read, whatever may follow that; nothing does after the end.
   pub all : f .unread ≡ false → f .failed ≡ false → (more : List ℕ) → (f .ended ≡ true → more ≡ [])
       → handedOver writes ≡ printed (bytesOf reads ++ more)

@@ -1,6 +1,6 @@
 -- A turn of the program keeps what it knows.
 use mathlib.Core.Path.{_≡_, refl, sym, ap, ap₂, _∙_, subst}
-use mathlib.Core.Bool.{Bool, true, false, not, cond, _||_, true≢false}
+use mathlib.Core.Bool.{Bool, true, false, not, cond, _&&_, _||_, true≢false, and-true, and-false}
 use mathlib.Core.List.{List, [], _∷_, _++_, append-assoc, append-nil}
 use Prim.Native.Nat.{ℕ, _+_, _-_, _<_}
 use native.Mathlib.Omega.{arith}
@@ -14,10 +14,9 @@ use Rattle.text.specs.Appended.{Appended, named}
 use Rattle.console.specs.declared.Input.{Input}
 use Rattle.console.specs.declared.Filled.{Filled}
 use Rattle.console.specs.declared.Output.{Output}
-use Rattle.console.specs.Trace.{noInput, noOutput, took, wrote, FilledFrom}
-use Rattle.console.specs.History.{Read, tookAll, bytesOf, Write, wroteAll, handedOver, someReadFailed, someWriteFailed}
-use Rattle.console.proofs.Traces.{took-more, bytes-more, reads-failed, met-end, met-failure}
-use Rattle.console.proofs.Traces.{wrote-more, handed-more, writes-failed, not-whole}
+use Rattle.console.specs.Trace.{noInput, noOutput, wrote, FilledFrom}
+use Rattle.console.specs.History.{Read, bytesOf, Write, handedOver, Told}
+use Rattle.console.proofs.Traces.{bytes-more, handed-more, told-nothing, told-read, told-wrote}
 use Rattle.rewriting.specs.declared.Held.{Held}
 use Rattle.rewriting.specs.declared.Given.{Given}
 use Rattle.rewriting.specs.Given as Rewriting
@@ -42,19 +41,13 @@ flow-begun e g h = ap₃ e g h
     ap₃ e g h = rw (e, g, h)
 
 along-begins : Along startingFlow
-unfolding tookAll wroteAll bytesOf handedOver someReadFailed someWriteFailed
+unfolding bytesOf handedOver
 along-begins = record {
   reached = starting-reached;
   reads = [];
   writes = [];
   made = refl;
-  input = refl;
-  output = refl;
-  unread-is = refl;
-  failed-is = refl;
-  end-read = λ e. absurd (true≢false (sym e));
-  read-failed = λ e. absurd (true≢false (sym e));
-  write-failed = λ e. absurd (true≢false (sym e));
+  told = told-nothing;
   rewrites = λ more last. sym (starting-remains more);
 }
 
@@ -110,19 +103,21 @@ module _ (h : Held) (came : List ℕ) where
 -- ---- a turn
 -- B was filled
 module _ (f : Flow) (B : List ℕ) (a : Along f) (on : f .ended ≡ false) (good : f .unread ≡ false) (went : f .failed ≡ false) (r : Filled)
-    (filled : FilledFrom (f .input) B r) where
+    (filled : FilledFrom (f .input) B r) (some : 0 < length B) where
   abbrev came : List ℕ
   came = take (r .count) B
 
   abbrev this : Read
   this = record { asked = length B; bytes = came; failed = r .failed }
 
-  input-is : r .input ≡ tookAll noInput (a .reads ++ (this ∷ []))
-  input-is =
-      filled .next ∙ ap (λ i. took i (length B) came (r .failed)) (a .input) ∙ sym (took-more noInput (a .reads) this)
-
-  failed-now : someReadFailed (a .reads ++ (this ∷ [])) ≡ r .failed
-  failed-now = reads-failed (a .reads) this ∙ ap (_|| r .failed) (sym (a .unread-is) ∙ good)
+  -- what the program says of its reads, where this comes of it
+  now-told : {ended unread failed : Bool} → eqb (r .count) 0 && not (r .failed) ≡ ended → r .failed ≡ unread → f .failed ≡ failed
+      → Told (r .input) (f .output) ended unread failed (a .reads ++ (this ∷ [])) (a .writes)
+  now-told {ended} {unread} e u h =
+      subst (λ b. Told (r .input) (f .output) ended unread b (a .reads ++ (this ∷ [])) (a .writes)) h
+      (subst (λ b. Told (r .input) (f .output) ended b (f .failed) (a .reads ++ (this ∷ [])) (a .writes)) u
+      (subst (λ b. Told (r .input) (f .output) b (r .failed) (f .failed) (a .reads ++ (this ∷ [])) (a .writes)) e
+      (told-read (a .told) good B r filled some)))
 
   -- what is left of what was read before and now
   read-rewrites : (more : List ℕ)
@@ -153,13 +148,7 @@ module _ (f : Flow) (B : List ℕ) (a : Along f) (on : f .ended ≡ false) (good
         reads = a .reads ++ (this ∷ []);
         writes = a .writes;
         made = omega (arith, length-append (a .reads) (this ∷ []), a .made);
-        input = input-is;
-        output = a .output;
-        unread-is = sym (failed-now ∙ bad);
-        failed-is = sym went ∙ a .failed-is;
-        end-read = λ e. absurd (true≢false (sym e));
-        read-failed = λ _. met-failure (a .reads) B (r .count) (r .failed) (filled .none bad) bad;
-        write-failed = λ e. absurd (true≢false (sym e));
+        told = now-told (ap (λ b. eqb (r .count) 0 && not b) bad ∙ and-false (eqb (r .count) 0)) bad went;
         rewrites = λ more last.
             read-rewrites more ∙ ap (λ n. handedOver (a .writes) ++ remaining (f .held) (take n B ++ more)) (filled .none bad);
       };
@@ -167,7 +156,7 @@ module _ (f : Flow) (B : List ℕ) (a : Along f) (on : f .ended ≡ false) (good
     }
 
   -- else what it brought was passed, and the text handed over
-  module _ (came-well : r .failed ≡ false) (some : 0 < length B) {most : ℕ} {out out' : List ℕ} (g : Given)
+  module _ (came-well : r .failed ≡ false) {most : ℕ} {out out' : List ℕ} (g : Given)
       (d : Done most (passed (f .held) came) out out' 0 g) (o : Output) (whole : Bool)
       (sent : o ≡ wrote (f .output) (take (g .written) out') whole) where
     abbrev text : List ℕ
@@ -208,13 +197,9 @@ module _ (f : Flow) (B : List ℕ) (a : Along f) (on : f .ended ≡ false) (good
         reads = a .reads ++ (this ∷ []);
         writes = a .writes ++ (now-written ∷ []);
         made = omega (arith, length-append (a .reads) (this ∷ []), a .made);
-        input = input-is;
-        output = sent ∙ ap₂ (λ x y. wrote x y whole) (a .output) (d .text .text) ∙ sym (wrote-more noOutput (a .writes) now-written);
-        unread-is = sym (failed-now ∙ came-well);
-        failed-is = sym (writes-failed (a .writes) now-written ∙ ap (_|| not whole) (sym (a .failed-is) ∙ went));
-        end-read = λ e. met-end (a .reads) B (r .count) (r .failed) some e came-well;
-        read-failed = λ e. absurd (true≢false (sym e));
-        write-failed = not-whole (a .writes) text whole;
+        told = told-wrote
+            (now-told (ap (λ b. eqb (r .count) 0 && not b) came-well ∙ and-true (eqb (r .count) 0)) came-well refl) refl went text whole
+            (sent ∙ ap (λ y. wrote (f .output) y whole) (d .text .text));
         rewrites = turn-rewrites;
       };
       fewer = omega arith;
@@ -251,13 +236,7 @@ pub streamed : (f : Flow) → Along f → isOver f ≡ true → Streamed f
 streamed f a over = record {
   reads = a .reads;
   writes = a .writes;
-  input = a .input;
-  output = a .output;
-  unread-is = a .unread-is;
-  failed-is = a .failed-is;
-  read-failed = a .read-failed;
-  write-failed = a .write-failed;
-  end-read = a .end-read;
+  told = a .told;
   over = λ e u g. omega (arith, a .made, used-up e u g);
   all = λ e went. sym (all-written e);
   begins = λ more last. (stillLeft f more, a .rewrites more last);

@@ -7,8 +7,7 @@ use lib.Dec.{eqb}
 use lib.ListN.{length}
 use Rattle.model.specs.Rewrite.{rewritten}
 use Rattle.console.specs.Trace.{noInput, noOutput}
-use Rattle.console.specs.History.{Read, tookAll, bytesOf, someReadFailed, EndRead, ReadFailed}
-use Rattle.console.specs.History.{Write, wroteAll, handedOver, someWriteFailed, WriteFailed}
+use Rattle.console.specs.History.{Read, bytesOf, Write, handedOver, Told}
 use Rattle.rewriting.specs.declared.Held.{Held}
 use Rattle.rewriting.specs.Given as Rewriting
 use Rattle.rewriting.specs.Given.{heldBytes, Handed, manyBytes}
@@ -42,13 +41,7 @@ pub record Along (f : Flow) : Type 0 where
   pub reads : List Read
   pub writes : List Write
   pub made : length reads + f .allowed ≡ mostReads
-  pub input : f .input ≡ tookAll noInput reads
-  pub output : f .output ≡ wroteAll noOutput writes
-  pub unread-is : f .unread ≡ someReadFailed reads
-  pub failed-is : f .failed ≡ someWriteFailed writes
-  pub end-read : f .ended ≡ true → EndRead reads
-  pub read-failed : f .unread ≡ true → ReadFailed reads
-  pub write-failed : f .failed ≡ true → WriteFailed writes
+  pub told : Told (f .input) (f .output) (f .ended) (f .unread) (f .failed) reads writes
   -- what was written, and what is still to be
   pub rewrites : (more : List ℕ) → (f .ended ≡ true → more ≡ [])
       → rewritten (bytesOf reads ++ more) ≡ handedOver writes ++ stillLeft f more

@@ -5,9 +5,7 @@ use mathlib.Core.Bool.{true, false}
 use Prim.Native.Nat.{ℕ}
 use lib.ListN.{length}
 use Rattle.model.specs.Rewrite.{rewritten}
-use Rattle.console.specs.Trace.{noInput, noOutput}
-use Rattle.console.specs.History.{Read, tookAll, bytesOf, someReadFailed, EndRead, ReadFailed}
-use Rattle.console.specs.History.{Write, wroteAll, handedOver, someWriteFailed, WriteFailed}
+use Rattle.console.specs.History.{Read, bytesOf, Write, handedOver, Told}
 use Rattle.rewrite.specs.declared.Flow.{Flow}
 
 -- how many reads are made at most
@@ -18,16 +16,8 @@ mostReads = 18446744073709551615
 pub record Streamed (f : Flow) : Type 0 where
   pub reads : List Read
   pub writes : List Write
-  -- these reads and these writes were made, in this order
-  pub input : f .input ≡ tookAll noInput reads
-  pub output : f .output ≡ wroteAll noOutput writes
-  -- it says that a read or a write failed exactly where one did, which is then the last, and that the input has ended only where a read met
-  -- the end
-  pub unread-is : f .unread ≡ someReadFailed reads
-  pub failed-is : f .failed ≡ someWriteFailed writes
-  pub read-failed : f .unread ≡ true → ReadFailed reads
-  pub write-failed : f .failed ≡ true → WriteFailed writes
-  pub end-read : f .ended ≡ true → EndRead reads
+  -- these reads and these writes were made, and what it says of them
+  pub told : Told (f .input) (f .output) (f .ended) (f .unread) (f .failed) reads writes
   -- it stops where it says one of these, else only after the most reads
   pub over : f .ended ≡ false → f .unread ≡ false → f .failed ≡ false → length reads ≡ mostReads
   -- Where the input has ended and no write failed, what was written is what is left of what was read.

@@ -55,7 +55,7 @@ returns c =
     let k = c .before .before .before .before .before .before .before in
     let s = started k in
     turn-stopped (s .args .f) (k .fill .last .1 .0) (s .pre .0) (s .pre .1) (s .pre .5) (s .pre .6) (k .fill .result)
-    (k .fill .ensures) (c .before .if1 .taken) (s .pre .2)
+    (k .fill .ensures) (omega (arith, k .fill .kept .1 .0, s .pre .3)) (c .before .if1 .taken) (s .pre .2)
 
 slice-reshare-prefix-pass : tie.Need-slice-reshare-prefix-pass
 slice-reshare-prefix-pass c = search needs
@@ -97,7 +97,7 @@ returns-2 c =
     let k = read-before (passing p) in
     let s = started k in
     turn-done (s .args .f) (k .fill .last .1 .0) (s .pre .0) (s .pre .1) (s .pre .5) (s .pre .6) (k .fill .result) (k .fill .ensures)
-    (passing p .if1 .left) (omega (arith, k .fill .kept .1 .0, s .pre .3)) (p .pass .result) (p .pass .ensures) _
+    (omega (arith, k .fill .kept .1 .0, s .pre .3)) (passing p .if1 .left) (p .pass .result) (p .pass .ensures) _
     (e .emit .result .whole) (e .emit .ensures) (s .pre .2)
 
 pub turn-spec : {M : Type 1} → statement M
