@@ -117,7 +117,8 @@ module _ {i : Input} {o : Output} {ended unread failed : Bool} {rs : List Read} 
       → Told i p ended false (not whole) rs (ws ++ (record { bytes = bytes; whole = whole } ∷ []))
   told-wrote went bytes whole sent = record {
     input-is = t .input-is;
-    output-is = sent ∙ ap (λ q. wrote q bytes whole) (t .output-is) ∙ sym (wrote-more noOutput ws (record { bytes = bytes; whole = whole }));
+    output-is =
+        sent ∙ ap (λ q. wrote q bytes whole) (t .output-is) ∙ sym (wrote-more noOutput ws (record { bytes = bytes; whole = whole }));
     unread-is = sym well ∙ t .unread-is;
     failed-is =
         sym (writes-failed ws (record { bytes = bytes; whole = whole }) ∙ ap (_|| not whole) (sym (t .failed-is) ∙ went));

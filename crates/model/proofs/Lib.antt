@@ -30,6 +30,10 @@
 --     Moves, Enclosed                      each kind of field keeps every motion; demand 3, entire
 --     OldFault                             with a next identifier that doesn't rise, demand 3 is false
 --     Reached                              a motion may take any part of its limits, and goes where exact arithmetic says
+--     TextParts .. LineAnswered            a text in parts, numbers as words; each line that is printed, as it is read
+--     Promise                              what is printed keeps the promise
+--     SomeMotion, Extended, Places         every input allows a motion; limits at the accepted fields alone; a field stands at its place
+--     ListingRead, Refuted, RefutedRefusal   the listing as it is read; bytes that are no line; texts with a fault break the promise
 --     OldField, Kept                       the run before request A.5 by its fields; the run of a rewritten file gives what it gave
 pub mod Marked
 pub mod Listing
@@ -120,5 +124,16 @@ pub mod Moves
 pub mod Enclosed
 pub mod OldFault
 pub mod Reached
+pub mod TextParts
+pub mod TextNumbers
+pub mod Spoken
+pub mod LineAnswered
+pub mod Promise
+pub mod SomeMotion
+pub mod Extended
+pub mod Places
+pub mod ListingRead
+pub mod Refuted
+pub mod RefutedRefusal
 pub mod OldField
 pub mod Kept

@@ -18,6 +18,8 @@
 --     Points       the points of a set at given factor values
 --     Motion       what a motion is, and what is claimed of every motion (demand 3)
 --     Reached      that a motion may go to its limits, and where it goes
+--     Reading      an output as a person reads it: lines, words, numbers
+--     Promised     what an output promises of every motion, from an input's bytes to an output's bytes
 --     Origin       where the radii come from, and what is claimed of that
 --     Precision    how close the results are to the true points, and what is claimed of that (demand 2)
 --     Between      what is claimed of a hull
@@ -43,6 +45,8 @@ pub mod Marked
 pub mod Points
 pub mod Motion
 pub mod Reached
+pub mod Reading
+pub mod Promised
 pub mod Origin
 pub mod Precision
 pub mod Between

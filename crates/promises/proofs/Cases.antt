@@ -16,3 +16,9 @@ use Rattle.model.proofs.LikeParts.{like-parts}
 use Rattle.model.proofs.FoldedLine.{folds-printed}
 use Rattle.model.proofs.CallCauses.{order-of-sums, order-of-others, order-of-steps}
 use Rattle.model.proofs.CallLimits.{identifier-limits, next-limits, room-first, slices}
+use Rattle.model.proofs.ListingRead.{listing-read, strange-read}
+use Rattle.model.proofs.Refuted.{right, ends-exchanged, minus-lost, digit-lost, box-of-another-field, safe-for-unknown, line-left-out}
+use Rattle.model.proofs.Refuted.{line-twice, numbered-from-one, another-tag, one-end, no-box, folded-left-out, no-end, another-end}
+use Rattle.model.proofs.Refuted.{not-ended, refused-at-the-end, more-after-the-end}
+use Rattle.model.proofs.RefutedRefusal.{right-refusal, another-cause, another-place, refusal-left-out, closed-all-the-same}
+use Rattle.model.proofs.RefutedRefusal.{end-after-refusal}
