@@ -147,7 +147,7 @@ start-alone b n s u = (refl, refl)
 -- what a body that nothing refuses passed
 passed-by : (k : Kind) (b : List ℕ) (next : ℕ) (s : Zonotope) → bodyRefusal k b next s ≡ none → Passed (meaning k b next s)
 passed-by k b next s e =
-    body-passed (meaning k b next s) (length b) (no-cause (ofBody (meaning k b next s) (length b)) e) .2
+    body-passed (meaning k b next s) (length b) (no-cause (ofBody (meaning k b next s) (length b)) e)
 
 -- ---- a state that a run can have
 module _ (st : State) (run : Running st) where

@@ -1,33 +1,16 @@
 -- What a field answers where no cause holds, by its kind.
-use mathlib.Core.Path.{_≡_, refl, sym, _∙_}
+use mathlib.Core.Path.{_≡_, sym, _∙_}
 use mathlib.Core.List.{List}
-use mathlib.Core.Bool.{Bool}
 use Prim.Native.Nat.{ℕ}
 use native.Mathlib.Omega.{arith}
 use Rattle.model.specs.Set.{Zonotope}
-use Rattle.model.specs.Operations.{Box, box, safe}
-use Rattle.model.specs.Body.{givenHalfspaces}
-use Rattle.model.specs.Field.{Kind, start, step, disturbance, independent, tied, reduction, check, hull, rangedStep, unknown}
-use Rattle.model.specs.Field.{inside, verdict, skipped, Meaning, meaning}
-
--- the box of its result, a verdict, or, where the kind is unknown, nothing
-pub data Answers (k : Kind) (m : Meaning) : Type 0 where
-  with-box : m .outcome ≡ inside (box (m .result)) → Answers k m
-  with-verdict : (v : Bool) → m .outcome ≡ verdict v → Answers k m
-  with-nothing : k ≡ unknown → m .outcome ≡ skipped → Answers k m
+use Rattle.model.specs.Operations.{Box, box}
+use Rattle.model.specs.Field.{Kind, inside, meaning}
+pub use Rattle.model.proofs.Laws.{Answers, with-box, with-verdict, with-nothing}
+use Rattle.model.proofs.Kind.{laws}
 
 pub answers : (k : Kind) (b : List ℕ) (next : ℕ) (s : Zonotope) → Answers k (meaning k b next s)
-unfolding meaning
-answers start b next s = with-box refl
-answers step b next s = with-box refl
-answers disturbance b next s = with-box refl
-answers independent b next s = with-box refl
-answers tied b next s = with-box refl
-answers reduction b next s = with-box refl
-answers check b next s = with-verdict (safe (givenHalfspaces b) s) refl
-answers hull b next s = with-box refl
-answers rangedStep b next s = with-box refl
-answers unknown b next s = with-nothing refl refl
+answers k = laws k .answers
 
 -- a box that is answered is the result's
 pub answered-box : (k : Kind) (b : List ℕ) (next : ℕ) (s : Zonotope) (x : Box) → meaning k b next s .outcome ≡ inside x

@@ -4,6 +4,7 @@ use mathlib.Core.List.{List, [], _∷_, _++_, map}
 use mathlib.Core.Bool.{true, false, _||_}
 use mathlib.Core.Option.{none, some}
 use Prim.Native.Nat.{ℕ}
+use lib.ListN.{length}
 use lib.Dec.{eqb}
 use lib.IntN.{ℤ, pos, negsuc, natAbs}
 use native.Mathlib.Omega.{arith}
@@ -19,6 +20,10 @@ use Rattle.model.specs.Operations.{disturb, reduce}
 use Rattle.model.specs.Bytes.{number, word}
 use Rattle.model.specs.Body.{givenSet, givenRadii, disturbanceWords}
 use Rattle.model.specs.Field.{disturbance, negative, beyond, allZero, meaning}
+use Rattle.model.proofs.Accepted.{holdsAt}
+use Rattle.model.proofs.Laws.{within}
+use Rattle.model.proofs.Kind.{laws}
+use Rattle.model.specs.Run.{tag, body, current}
 use Rattle.model.specs.Run.{State, begin, kindOf, Cause, firstOf, misplaced, cut, causes, refusal, withFolds, after, run, fields}
 use Rattle.model.specs.Run.{fieldsWithin}
 use Rattle.model.specs.Library.{ofRadii}
@@ -66,9 +71,9 @@ empty-causes = (refl, refl, refl, refl, refl, refl, refl, refl)
 
 -- the order in which a run asks
 pub order-of-causes : (st : State) (f : List ℕ)
-    → map (λ (c : Cause). c .number) (causes st f) ≡ 12 ∷ 2 ∷ 1 ∷ 3 ∷ 4 ∷ 3 ∷ 5 ∷ 6 ∷ 14 ∷ 7 ∷ 8 ∷ 9 ∷ 10 ∷ []
-unfolding causes
-order-of-causes st f = refl
+    → within (map (λ (c : Cause). c .number) (causes st f)) (12 ∷ 2 ∷ 1 ∷ 3 ∷ 4 ∷ 3 ∷ 5 ∷ 6 ∷ 14 ∷ 7 ∷ 8 ∷ 9 ∷ 10 ∷ []) ≡ true
+unfolding causes within
+order-of-causes st f = laws (kindOf (tag f)) .in-order (body f) (st .next) (current st) (length (body f))
 
 -- and in which a call asks of radii
 pub order-of-radii : (n : ℕ) (radii : List ℕ) (dimension : ℕ)
@@ -86,9 +91,10 @@ in-range (negsuc n ∷ zs) e =
     let h = and-true (eqb (natAbs (negsuc n)) 0) (allZero (map natAbs zs)) e in
     absurd (omega (arith, eqb-true (natAbs (negsuc n)) 0 (h .0)))
 
-pub never-both : (b : List ℕ) (next : ℕ) (s : Zonotope) → (let m = meaning disturbance b next s in m .empty ≡ true → m .outOfRange ≡ false)
-unfolding meaning givenRadii
-never-both b next s e = in-range (disturbanceWords b) e
+pub never-both : (b : List ℕ) (next : ℕ) (s : Zonotope) → (bytes : ℕ)
+    → (let cs = meaning disturbance b next s .causes bytes in holdsAt 14 cs ≡ true → holdsAt 6 cs ≡ false)
+unfolding meaning givenRadii holdsAt
+never-both b next s bytes e = in-range (disturbanceWords b) e
 
 -- ---- rewritten files
 -- the point 0, and a reduction that leaves it

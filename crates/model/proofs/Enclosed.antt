@@ -10,55 +10,17 @@ use native.Mathlib.Omega.{arith}
 use lib.Dec.{T}
 use lib.ListN.{getD}
 use Rattle.model.specs.Set.{Zonotope}
-use Rattle.model.specs.Operations.{safe}
-use Rattle.model.specs.Body.{dimension, givenHalfspaces}
-use Rattle.model.specs.Field.{Kind, start, step, disturbance, independent, tied, reduction, check, hull, rangedStep, unknown}
-use Rattle.model.specs.Field.{verdict, meaning}
 use Rattle.model.specs.Run.{State, noSet, current, tag, body, kindOf, meant, refusal, accepted, after, outcome, acceptedBy, refusedAt}
 use Rattle.model.specs.Points.{Vector, Point, InRange}
-use Rattle.model.specs.Motion.{Picks, Moment, beginning, move, valuesAfter, markAfter, follow, InBox, Unsafe, Kept}
+use Rattle.model.specs.Motion.{Picks, Moment, beginning, move, valuesAfter, markAfter, freshValues, follow, InBox, Kept}
 use Rattle.model.specs.Motion.{Always, Enclosed}
 use Rattle.model.proofs.Held.{Held}
-use Rattle.model.proofs.Accepted.{Passed, accepted-passed}
-use Rattle.model.proofs.ByKind.{dimension-same}
+use Rattle.model.proofs.Accepted.{accepted-passed}
 use Rattle.model.proofs.Answers.{answered-box}
 use Rattle.model.proofs.Sound.{Sound, begin-sound, after-sound, current-held}
 use Rattle.model.proofs.BoxPoint.{box-point}
-use Rattle.model.proofs.SafePoint.{safe-point}
-use Rattle.model.proofs.Moves.{Inside, Agree, old-value, values-range, keeps}
-
--- ---- what is answered
--- where a verdict is safe, no point of the result is in the unsafe region
-answered-safe : (k : Kind) (b : List ℕ) (next : ℕ) (s : Zonotope) {α x : Vector} → Passed (meaning k b next s) → InRange α
-    → Point (meaning k b next s .result) α x → meaning k b next s .outcome ≡ verdict true → ¬ (Unsafe (givenHalfspaces b) (dimension b) x)
-unfolding meaning
-answered-safe check b next s {α} {x} q w i e u =
-    let t : safe (givenHalfspaces b) s ≡ true = cc in
-    safe-point (givenHalfspaces b) w i (subst T (sym t) tt) (subst (λ n. Unsafe (givenHalfspaces b) n x) (dimension-same b next s check q)
-    u)
-answered-safe start b next s q w i e u = let z : _≡_ {A = ℕ} 0 1 = cc in omega arith
-answered-safe tied b next s q w i e u = let z : _≡_ {A = ℕ} 0 1 = cc in omega arith
-answered-safe hull b next s q w i e u = let z : _≡_ {A = ℕ} 0 1 = cc in omega arith
-answered-safe independent b next s q w i e u = let z : _≡_ {A = ℕ} 0 1 = cc in omega arith
-answered-safe step b next s q w i e u = let z : _≡_ {A = ℕ} 0 1 = cc in omega arith
-answered-safe rangedStep b next s q w i e u = let z : _≡_ {A = ℕ} 0 1 = cc in omega arith
-answered-safe disturbance b next s q w i e u = let z : _≡_ {A = ℕ} 0 1 = cc in omega arith
-answered-safe reduction b next s q w i e u = let z : _≡_ {A = ℕ} 0 1 = cc in omega arith
-answered-safe unknown b next s q w i e u = let z : _≡_ {A = ℕ} 0 1 = cc in omega arith
-
--- the next identifier after a field is the mark that its body counts
-next-counted : (k : Kind) (b : List ℕ) (next : ℕ) (s : Zonotope) → meaning k b next s .next ≡ markAfter k b next
-unfolding meaning markAfter
-next-counted start b next s = refl
-next-counted tied b next s = refl
-next-counted independent b next s = refl
-next-counted hull b next s = refl
-next-counted step b next s = refl
-next-counted rangedStep b next s = refl
-next-counted disturbance b next s = refl
-next-counted reduction b next s = refl
-next-counted check b next s = refl
-next-counted unknown b next s = refl
+use Rattle.model.proofs.Laws.{Inside, Agree, old-value, values-range}
+use Rattle.model.proofs.Kind.{laws}
 
 -- ---- an accepted field leaves its result, another leaves the set
 -- of a run that isn't over and a field without refusal, or else
@@ -147,14 +109,21 @@ module _ (p : Picks) (m : ℕ) (now : Moment) (f : List ℕ) (g : Good p now) (i
   position = move (kindOf (tag f)) (body f) p m (now .position)
 
   values-in : InRange values
-  values-in = values-range (body f) p m (now .mark) (now .values) (kindOf (tag f)) (g .ranged) (i .own) (i .blend)
+  unfolding valuesAfter
+  values-in = values-range (freshValues (kindOf (tag f)) (body f) p m) (now .mark)
+      (laws (kindOf (tag f)) .fresh-range (body f) p m (i .own) (i .blend)) (g .ranged)
+
+  -- an identifier below the mark keeps its value
+  old-values : (j : ℕ) → j < now .mark → values j ≡ now .values j
+  unfolding valuesAfter
+  old-values j h = old-value (freshValues (kindOf (tag f)) (body f) p m) (now .mark) (now .values) j h
 
   -- the motion after an accepted field is in its result
   result-point : T (accepted (now .state) f) → Point (meant (now .state) f .result) values position
   result-point t =
       let a = accepted-passed (now .state) f t in
       subst (λ n. Point (meant (now .state) f .result) (valuesAfter (kindOf (tag f)) (body f) p m n (now .values)) position) (sym (g .counted))
-      (keeps (body f) p m (now .state .next) (current (now .state)) (g .sound .from-first) (g .ranged) (g .agree) (kindOf (tag f)) i
+      (laws (kindOf (tag f)) .keeps (body f) p m (now .state .next) (current (now .state)) (g .sound .from-first) (g .ranged) (g .agree) i
       (λ e. let h = current-held (g .sound) f a e in (h, g .in-set (begun (g .sound) h))) (a .passed))
 
   -- a state's current set after it
@@ -166,11 +135,11 @@ module _ (p : Picks) (m : ℕ) (now : Moment) (f : List ℕ) (g : Good p now) (i
   moved-good t = record {
     sound = after-sound (g .sound) f;
     counted = ap (markAfter (kindOf (tag f)) (body f)) (g .counted)
-        ∙ sym (next-counted (kindOf (tag f)) (body f) (now .state .next) (current (now .state)))
+        ∙ sym (laws (kindOf (tag f)) .next-counted (body f) (now .state .next) (current (now .state)))
         ∙ ap (λ (st : State). st .next) (sym (accepted-state (now .state) f t));
     ranged = values-in;
     agree = λ k h. g .agree k h
-        ∙ sym (old-value (body f) p m (now .mark) (now .values) (kindOf (tag f)) k (omega (arith, g .sound .from-first, g .counted)));
+        ∙ sym (old-values k (omega (arith, g .sound .from-first, g .counted)));
     in-set = λ h. subst (λ s. Point s values position) (result-is t) (result-point t);
   }
 
@@ -184,7 +153,7 @@ module _ (p : Picks) (m : ℕ) (now : Moment) (f : List ℕ) (g : Good p now) (i
         in-box = λ place x e. subst (λ n. InBox n position x) (ap (λ (u : Zonotope). u .dimension) (result-is t))
             (subst (InBox (meant (now .state) f .result .dimension) position)
             (answered-box k b next s x (sym (accepted-outcome (now .state) f t place) ∙ e)) (box-point values-in (result-point t)));
-        not-unsafe = λ place e. answered-safe k b next s q values-in (result-point t) (sym (accepted-outcome (now .state) f t place) ∙ e);
+        not-unsafe = λ place e. laws k .answered-safe b next s q values-in (result-point t) (sym (accepted-outcome (now .state) f t place) ∙ e);
       }
 
   stayed-good : accepted (now .state) f ≡ false → Good p (stayed now f)

@@ -8,54 +8,24 @@ use native.Mathlib.Omega.{arith}
 use borrow.Author.Tests.{lt-ltb, ltb-true}
 use lib.Dec.{ltb}
 use lib.ListN.{getD}
-use Rattle.model.specs.Field.{Kind, start, step, disturbance, independent, tied, reduction, check, hull, rangedStep, unknown}
 use lib.IntN.{pos}
 use Rattle.rational.specs.Rational.{ℚ, ι, 1ℚ}
 use Rattle.rational.specs.Bounds.{Within}
 use Rattle.model.specs.Body.{givenStep, givenWidths}
+use Rattle.model.specs.Field.{Kind, rangedStep}
 use Rattle.model.specs.Run.{tag, body, kindOf, accepted, after, fields}
 use Rattle.model.specs.Points.{Vector, InRange}
-use Rattle.model.specs.Motion.{Picks, offsetLimit, Allowed, InWidths, Moment, beginning, move, valuesAfter, markAfter, follow}
+use Rattle.model.specs.Motion.{Picks, offsetLimit, Allowed, InWidths, Moment, beginning, withValues, valuesAfter, markAfter, follow}
 use Rattle.model.specs.Reading.{lineAt}
 use Rattle.model.specs.Promised.{acceptedFields, fieldAt, coordinates, momentFrom, position, TrueOf, Promised, AllowedBefore}
+use Rattle.model.proofs.Laws.{SameAt}
+use Rattle.model.proofs.Kind.{laws}
 use Rattle.model.proofs.SomeMotion.{some-motion}
 
--- two motions pick the same at field m
-record SameAt (p q : Picks) (m : ℕ) : Type 0 where
-  values : p .values ≡ q .values
-  own : p .own m ≡ q .own m
-  numbers : p .numbers m ≡ q .numbers m
-  offsets : p .offsets m ≡ q .offsets m
-  blend : p .blend m ≡ q .blend m
-  linear : p .linear m ≡ q .linear m
-  quadratic : p .quadratic m ≡ q .quadratic m
-
 module _ {p q : Picks} {m : ℕ} (h : SameAt p q m) where
-  same-values : (k : Kind) (b : List ℕ) (next : ℕ) (α : Vector) (i : ℕ) → valuesAfter k b p m next α i ≡ valuesAfter k b q m next α i
+  same-values : (k : Kind) (b : List ℕ) (next : ℕ) (α : Vector) → valuesAfter k b p m next α ≡ valuesAfter k b q m next α
   unfolding valuesAfter
-  same-values start b next α i = refl
-  same-values step b next α i = refl
-  same-values rangedStep b next α i = refl
-  same-values tied b next α i = refl
-  same-values disturbance b next α i = refl
-  same-values reduction b next α i = refl
-  same-values check b next α i = refl
-  same-values unknown b next α i = refl
-  same-values independent b next α i = rw (h .own)
-  same-values hull b next α i = rw (h .blend)
-
-  same-move : (k : Kind) (b : List ℕ) (x : Vector) (i : ℕ) → move k b p m x i ≡ move k b q m x i
-  unfolding move
-  same-move start b x i = rw (h .values, h .numbers, h .offsets)
-  same-move step b x i = refl
-  same-move rangedStep b x i = rw (h .linear, h .quadratic)
-  same-move tied b x i = rw (h .values, h .numbers, h .offsets)
-  same-move independent b x i = rw (h .own, h .numbers, h .offsets)
-  same-move hull b x i = rw (h .values, h .numbers, h .offsets, h .blend)
-  same-move disturbance b x i = rw (h .offsets)
-  same-move reduction b x i = refl
-  same-move check b x i = refl
-  same-move unknown b x i = refl
+  same-values k b next α = fun-ext (λ i. ap (λ cs. withValues cs next α i) (laws k .same-fresh h b))
 
   same-follow : (now : Moment) (f : List ℕ) → follow p m now f ≡ follow q m now f
   unfolding follow
@@ -66,7 +36,7 @@ module _ {p q : Picks} {m : ℕ} (h : SameAt p q m) where
         mark = cond yes (markAfter k b (now .mark)) (now .mark);
         values = cond yes v (now .values);
         position = cond yes x (now .position);
-      }) (fun-ext (same-values k b (now .mark) (now .values))) (fun-ext (same-move k b (now .position)))
+      }) (same-values k b (now .mark) (now .values)) (fun-ext (laws k .same-move h b (now .position)))
 
 -- so they are at the same places
 same-moment : (p q : Picks) (n k : ℕ) (now : Moment) (fs : List (List ℕ)) (m : ℕ) → k + m < n → ((j : ℕ) → j < n → SameAt p q j)

@@ -58,7 +58,7 @@ module _ (f : List ℕ) (fs : List (List ℕ)) (later : Stays fs) (place was : �
   unfolding oldRun run others results oldResults
   gone p =
       let d = emptied f p in
-      let q = old-placed st f (past .1) in
+      let q = old-placed st f d (past .1) in
       let some-first = z (after-start st f d (q .0)) in
       let as-was = leaves-all c st f h some-first d (q .1) (past .0) in
       let r = later place (was + length f) then c (subst Sound (sym as-was) h) (omega arith) (λ _. some-first) goes in
@@ -124,7 +124,7 @@ first-stays f fs e = go (emptyDisturbance f) refl where
   past = went begin f (old-over fs (oldAfter begin f) e)
 
   go : (b : Bool) → emptyDisturbance f ≡ b → emptyDisturbance f ≡ false
-  go true p = absurd (omega (arith, after-start begin f (emptied f p) (old-placed begin f (past .1) .0)))
+  go true p = absurd (omega (arith, after-start begin f (emptied f p) (old-placed begin f (emptied f p) (past .1) .0)))
   go false p = p
 
 -- so that the fields of the rewritten input are the others

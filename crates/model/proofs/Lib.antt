@@ -17,7 +17,9 @@
 --     Selected .. Finished, FixedPoint     a finished set is valid but for its span; a valid set is a fixed point of finishing
 --     StepShape .. HullShape, Held         every operation keeps what a run holds
 --     Narrower                             finishing widens no span, so that no reduction is refused with 10
---     Accepted, ByKind, Sound, Answers     what an accepted field passed and leaves; the invariant of a run; what a kind answers
+--     Accepted                             what an accepted field passed
+--     Laws, Kind                           the laws that a kind of field answers to; each kind's, a file each (with Folding .. Coordinates)
+--     Folds, ByKind, Sound, Answers        from those laws: what a field leaves; the invariant of a run; what a kind answers
 --     Parts, Covers, Alike                 points by parts; when a set covers another, when both have the same points
 --     CollectCovers .. FinishCovers        every stage of finishing keeps every point
 --     Aligned, Values, SumPoints           sums and disturbances keep every point
@@ -27,7 +29,7 @@
 --     Close                                a step from a set without independent parts is close to the true image (demand 2)
 --     ZerosAfter, Ranged                   a ranged step with half-widths of 0 is the step, also as a field
 --     Ends, BoxPoint, SafePoint            the box holds every point; a region that the check calls safe holds none
---     Moves, Enclosed                      each kind of field keeps every motion; demand 3, entire
+--     Enclosed                             demand 3, entire
 --     OldFault                             with a next identifier that doesn't rise, demand 3 is false
 --     Reached                              a motion may take any part of its limits, and goes where exact arithmetic says
 --     TextParts .. LineAnswered            a text in parts, numbers as words; each line that is printed, as it is read
@@ -74,7 +76,7 @@ pub mod Collected
 pub mod Unused
 pub mod Stages
 pub mod Finished
-pub mod Folds
+pub mod Folding
 pub mod FixedPoint
 pub mod StepShape
 pub mod Union
@@ -83,10 +85,6 @@ pub mod HullShape
 pub mod Held
 pub mod Narrower
 pub mod Accepted
-pub mod ByKind
-pub mod Sound
-pub mod Answers
-pub mod Origin
 pub mod Choice
 pub mod Parts
 pub mod Covers
@@ -120,7 +118,15 @@ pub mod Ranged
 pub mod Ends
 pub mod BoxPoint
 pub mod SafePoint
-pub mod Moves
+pub mod RadiusRules
+pub mod Coordinates
+pub mod Laws
+pub mod Kind
+pub mod Folds
+pub mod ByKind
+pub mod Sound
+pub mod Answers
+pub mod Origin
 pub mod Enclosed
 pub mod OldFault
 pub mod Reached
@@ -137,3 +143,4 @@ pub mod Refuted
 pub mod RefutedRefusal
 pub mod OldField
 pub mod Kept
+pub mod Same

@@ -8,15 +8,8 @@ use native.Mathlib.Omega.{arith}
 use lib.Dec.{T}
 use lib.ListN.{length}
 use Rattle.model.specs.Set.{Zonotope}
-use Rattle.model.specs.Finish.{finish, dropUnused, foldGenerators, foldTerms, foldHigh, dropZeroGenerators, dropZeroTerms}
-use Rattle.model.specs.Finish.{collectTerms}
-use Rattle.model.specs.Step as Step
-use Rattle.model.specs.Ranged as Ranged
-use Rattle.model.specs.Operations as Operations
-use Rattle.model.specs.Operations.{box, safe}
-use Rattle.model.specs.Hull as Hull
-use Rattle.model.specs.Body.{givenSet, givenStep, givenHalfspaces}
-use Rattle.model.specs.Field.{Kind, start, step, disturbance, independent, tied, reduction, check, hull, rangedStep, unknown}
+use Rattle.model.specs.Operations.{box}
+use Rattle.model.specs.Field.{Kind, check, unknown}
 use Rattle.model.specs.Field.{Outcome, inside, verdict, refused, skipped, Meaning, meaning}
 use Rattle.model.specs.Run.{State, current, tag, body, kindOf, meant, refusal, accepted, after, outcome, acceptedBy}
 use Rattle.model.specs.Text as Text
@@ -24,45 +17,31 @@ use Rattle.model.specs.Text.{linesFrom}
 use Rattle.model.proofs.LastLine.{no-cause}
 use Rattle.model.proofs.Accepted.{AcceptedField, accepted-passed}
 use Rattle.model.proofs.ByKind.{known}
+use Rattle.model.proofs.Laws as Laws
+use Rattle.model.proofs.Laws.{Answers, judges}
+use Rattle.model.proofs.Kind.{laws}
 use Rattle.model.specs.Reading.{Line, lines}
 use Rattle.model.specs.Promised.{coordinatesAfter}
 use Rattle.model.proofs.Spoken.{inTurn, reads-box, reads-verdict}
 
--- ---- by kinds
--- the coordinates of what a field leaves
-pub leaves-coordinates : (k : Kind) (b : List ℕ) (next : ℕ) (s : Zonotope)
-    → meaning k b next s .result .dimension ≡ coordinatesAfter k b (s .dimension)
-unfolding meaning coordinatesAfter givenSet givenStep finish dropUnused foldGenerators foldTerms foldHigh dropZeroGenerators dropZeroTerms
-    collectTerms Step.step Step.rounded Step.raw Ranged.rangedStep Ranged.gainingStep Operations.joined Operations.tiedSum
-    Operations.renumbered Operations.independentSum Operations.disturb Operations.reduce Hull.blended Hull.hull
-leaves-coordinates start b next s = refl
-leaves-coordinates step b next s = refl
-leaves-coordinates rangedStep b next s = refl
-leaves-coordinates disturbance b next s = refl
-leaves-coordinates independent b next s = refl
-leaves-coordinates tied b next s = refl
-leaves-coordinates reduction b next s = refl
-leaves-coordinates check b next s = refl
-leaves-coordinates hull b next s = refl
-leaves-coordinates unknown b next s = refl
-
+-- ---- by the laws of its kind
 -- a verdict for a check, else a box
 pub data Answered (k : Kind) (m : Meaning) : Type 0 where
   with-box : ¬ (k ≡ check) → m .outcome ≡ inside (box (m .result)) → Answered k m
   with-verdict : (v : Bool) → k ≡ check → m .outcome ≡ verdict v → Answered k m
 
-answered-by : (k : Kind) (b : List ℕ) (next : ℕ) (s : Zonotope) → ¬ (k ≡ unknown) → Answered k (meaning k b next s)
+-- a check answers with a verdict
+check-judges : (k : Kind) (b : List ℕ) (next : ℕ) (s : Zonotope) → k ≡ check → judges (meaning k b next s .outcome) ≡ true
 unfolding meaning
-answered-by start b next s u = with-box (λ e. let z : _≡_ {A = ℕ} 0 1 = cc in omega arith) refl
-answered-by step b next s u = with-box (λ e. let z : _≡_ {A = ℕ} 0 1 = cc in omega arith) refl
-answered-by rangedStep b next s u = with-box (λ e. let z : _≡_ {A = ℕ} 0 1 = cc in omega arith) refl
-answered-by disturbance b next s u = with-box (λ e. let z : _≡_ {A = ℕ} 0 1 = cc in omega arith) refl
-answered-by independent b next s u = with-box (λ e. let z : _≡_ {A = ℕ} 0 1 = cc in omega arith) refl
-answered-by tied b next s u = with-box (λ e. let z : _≡_ {A = ℕ} 0 1 = cc in omega arith) refl
-answered-by reduction b next s u = with-box (λ e. let z : _≡_ {A = ℕ} 0 1 = cc in omega arith) refl
-answered-by hull b next s u = with-box (λ e. let z : _≡_ {A = ℕ} 0 1 = cc in omega arith) refl
-answered-by check b next s u = with-verdict (safe (givenHalfspaces b) s) refl refl
-answered-by unknown b next s u = absurd (u refl)
+check-judges k b next s e = ap (λ k. judges (meaning k b next s .outcome)) e
+
+answered-by : (k : Kind) (b : List ℕ) (next : ℕ) (s : Zonotope) → ¬ (k ≡ unknown) → Answered k (meaning k b next s)
+answered-by k b next s u = go (laws k .answers b next s)
+  where
+    go : Answers k (meaning k b next s) → Answered k (meaning k b next s)
+    go (Laws.with-box q) = with-box (λ e. true≢false (sym (check-judges k b next s e) ∙ ap judges q)) q
+    go (Laws.with-verdict v q) = with-verdict v (laws k .judged b next s (ap judges q)) q
+    go (Laws.with-nothing n q) = absurd (u n)
 
 -- ---- an accepted field
 -- the line of an outcome, as it is read
@@ -118,7 +97,7 @@ module _ (st : State) (f : List ℕ) where
 
     pub next-coordinates : current (after st f) .dimension ≡ coordinatesAfter (kindOf (tag f)) (body f) (current st .dimension)
     next-coordinates =
-        ap (λ u. current u .dimension) accepted-after ∙ leaves-coordinates (kindOf (tag f)) (body f) (st .next) (current st)
+        ap (λ u. current u .dimension) accepted-after ∙ laws (kindOf (tag f)) .leaves-coordinates (body f) (st .next) (current st)
 
     -- Its line is read first, and then the others.
     pub reads-accepted : (place : ℕ) (fs : List (List ℕ)) → lines (linesFrom place st (f ∷ fs))

@@ -1,14 +1,14 @@
 -- Finishing widens no span: what a fold moves and what it widens are the folded size together, and sums are no larger than their parts. So
 -- no reduction is refused with 10.
-use mathlib.Core.Path.{_≡_, refl, _∙_, ap}
+use mathlib.Core.Path.{_≡_, refl, sym, _∙_, ap, subst}
 use mathlib.Core.List.{List, [], _∷_, _++_, map}
-use mathlib.Core.Bool.{Bool, true, false, not}
+use mathlib.Core.Bool.{Bool, true, false, not, _&&_}
 use mathlib.Core.Option.{some, Option·getD}
 use Prim.Native.Nat.{ℕ, zero, suc, _+_, _-_, _≤_}
 use native.Mathlib.Nat.{le-trans}
 use native.Mathlib.Omega.{arith}
 use borrow.Author.Tests.{ltb-false, le-ltb}
-use lib.Dec.{ltb}
+use lib.Dec.{ltb, eqb}
 use lib.ListN.{length, getD}
 use lib.IntN.{ℤ, natAbs, _+ℤ_}
 use Rattle.whole.specs.Half.{half-parts}
@@ -25,7 +25,7 @@ use Rattle.model.specs.Finish.{dropZeroGenerators, foldHigh, foldTerms, 
 use Rattle.model.specs.Operations.{reduce}
 use Rattle.model.specs.Body.{termLimit, generatorLimit}
 use Rattle.model.specs.Field.{reduction, meaning}
-use Rattle.model.specs.Run.{State, _if_, firstOf, begin, noSet, current, tag, body, kindOf, meant, causes}
+use Rattle.model.specs.Run.{State, _if_, firstOf, begin, noSet, current, tag, body, kindOf, ofBody, causes}
 use Rattle.model.specs.Run.{refusal, run}
 use Rattle.model.specs.Library.{Given, ofFirst, ofLimits, reduceRefusal}
 use Rattle.model.proofs.Vectors.{plusℤ-at, plusℕ-at}
@@ -215,15 +215,17 @@ narrow-now {st} h = go (st .count) refl
     go zero e = ap (λ o. tooWide (Option·getD o noSet)) (h .not-yet e)
     go (suc n) e = holds h (omega arith) .narrow
 
-result-fits : (b : List ℕ) (next : ℕ) (s : Zonotope) → tooWide s ≡ false → tooWide (meaning reduction b next s .result) ≡ false
-unfolding meaning
-result-fits b next s h = reduce-fits standardWeights (termLimit b) (generatorLimit b) s h
+-- the last cause of a reduction doesn't hold, and no other has its number
+never-ten : (b : List ℕ) (next : ℕ) (s : Zonotope) (bytes : ℕ) → tooWide s ≡ false
+    → any (λ c. eqb (c .number) 10 && c .holds) (ofBody (meaning reduction b next s) bytes) ≡ false
+unfolding meaning any
+never-ten b next s bytes h = rw (reduce-fits standardWeights (termLimit b) (generatorLimit b) s h)
 
 -- in no run, whatever bytes its fields hold, is a reduction refused with 10
 pub reduction-never-10 : (fs : List (List ℕ)) (f : List ℕ) → kindOf (tag f) ≡ reduction → refusal (run fs begin) f ≡ some 10 → ⊥
 unfolding causes any
 reduction-never-10 fs f k e =
     let st = run fs begin in
-    let fits : tooWide (meant st f .result) ≡ false = ap (λ x. tooWide (meaning x (body f) (st .next) (current st) .result)) k
-    ∙ result-fits (body f) (st .next) (current st) (narrow-now (run-sound fs begin-sound)) in
-    not-answered 10 (causes st f) (rw fits) e
+    not-answered 10 (causes st f)
+    (subst (λ x. any (λ c. eqb (c .number) 10 && c .holds) (ofBody (meaning x (body f) (st .next) (current st)) (length (body f))) ≡ false)
+    (sym k) (never-ten (body f) (st .next) (current st) (length (body f)) (narrow-now (run-sound fs begin-sound)))) e

@@ -6,9 +6,9 @@ use mathlib.Core.Bool.{Bool, true, false, not, cond, _&&_, true≢false}
 use mathlib.Core.Option.{Option, none, some, Option·none-ne-some, Option·getD}
 use Prim.Native.Nat.{ℕ, zero, suc, _+_, _*_, _<_, _≤_}
 use native.Mathlib.Omega.{arith}
-use lib.Dec.{eqb}
+use lib.Dec.{ltb, eqb}
 use lib.ListN.{length, take, drop}
-use borrow.Author.Tests.{ltb-false, le-ltb, eqb-true, eqb-false, not-false}
+use borrow.Author.Tests.{ltb-false, le-ltb, eqb-true, eqb-false, eq-eqb, not-false}
 use Rattle.whole.specs.Tab.{any, all, tab-cong, tab-getD}
 use Rattle.rational.specs.Sum as Sum
 use Rattle.rational.specs.Sum.{All, more}
@@ -18,17 +18,18 @@ use Rattle.model.specs.Valid.{tooWide}
 use Rattle.model.specs.Finish.{those}
 use Rattle.model.specs.Operations.{disturb, box}
 use Rattle.model.specs.Body.{dimension, givenRadii}
-use Rattle.model.specs.Field.{Kind, start, step, disturbance, independent, tied, reduction, check, hull, rangedStep, unknown}
-use Rattle.model.specs.Field.{badDimension, allZero, inside, refused, skipped, Meaning, meaning}
-use Rattle.model.specs.Run.{State, current, tag, body, kindOf, meant, Cause, _if_, firstOf, misplaced, cut, causes, refusal}
+use Rattle.model.specs.Field.{Kind, disturbance, describe}
+use Rattle.model.specs.Field.{badDimension, differs, allZero, inside, refused, skipped, Meaning, meaning}
+use Rattle.model.specs.Run.{State, current, tag, body, kindOf, meant, Cause, _if_, firstOf, misplaced, cut, ofBody, causes, refusal}
 use Rattle.model.specs.Run.{withFolds, acceptedBy, refusedAt, after, outcome, run}
 use Rattle.model.specs.Rewrite.{emptyDisturbance}
 use Rattle.model.specs.OldRun.{oldCauses, oldRefusal, oldAfter, oldOutcome, oldRun, AsNow, OldOtherwise, OnlyEmpty, counting}
 use Rattle.model.specs.OldRun.{OldRunOtherwise, OnlyCounted, OldEmpty}
-use Rattle.model.proofs.Tests.{or-false, and-true, no-cause, not-answered, passed-before}
+use Rattle.model.proofs.Tests.{or-false, and-true, no-cause, not-there, not-answered, passed-before}
 use Rattle.model.proofs.LastLine.{no-cause as not-refused}
 use Rattle.model.proofs.Accepted.{same, given-radii, first-starts}
-use Rattle.model.proofs.ByKind.{starts}
+use Rattle.model.proofs.ByKind.{starts, tag-of}
+use Rattle.model.proofs.Kind.{laws}
 use Rattle.model.proofs.Rewritten.{Emptied, emptied}
 use Rattle.model.proofs.Sound.{Sound, begin-sound, after-sound}
 
@@ -62,37 +63,11 @@ kind-of : (f : List ℕ) → Emptied f → kindOf (tag f) ≡ disturbance
 unfolding kindOf
 kind-of f d = ap kindOf (d .tagged)
 
--- only a field of tag 3 can be empty
-three : (t : ℕ) (b : List ℕ) (next : ℕ) (s : Zonotope) → meaning (kindOf t) b next s .empty ≡ true → eqb t 3 ≡ true
-unfolding kindOf meaning
-three t b next s = go (eqb t 1) (eqb t 2) (eqb t 3) (eqb t 4) (eqb t 5) (eqb t 6) (eqb t 7) (eqb t 8) (eqb t 9) where
-  go : (t₁ t₂ t₃ t₄ t₅ t₆ t₇ t₈ t₉ : Bool) → meaning (cond t₁ start (cond t₂ step (cond t₃ disturbance (cond t₄ independent
-      (cond t₅ tied (cond t₆ reduction (cond t₇ check (cond t₈ hull (cond t₉ rangedStep unknown))))))))) b next s .empty ≡ true
-      → t₃ ≡ true
-  go true t₂ t₃ t₄ t₅ t₆ t₇ t₈ t₉ p = absurd (true≢false (sym p))
-  go false true t₃ t₄ t₅ t₆ t₇ t₈ t₉ p = absurd (true≢false (sym p))
-  go false false true t₄ t₅ t₆ t₇ t₈ t₉ p = refl
-  go false false false true t₅ t₆ t₇ t₈ t₉ p = p
-  go false false false false true t₆ t₇ t₈ t₉ p = p
-  go false false false false false true t₇ t₈ t₉ p = p
-  go false false false false false false true t₈ t₉ p = p
-  go false false false false false false false true t₉ p = p
-  go false false false false false false false false true p = p
-  go false false false false false false false false false p = p
-
--- a whole field with the counts and the length of its kind, whose meaning is empty, is an empty disturbance
-is-empty : (f : List ℕ) (next : ℕ) (s : Zonotope) → cut f ≡ false → (let m = meaning (kindOf (tag f)) (body f) next s in
-    m .wrongCounts ≡ false → eqb (length (body f)) (m .bytes) ≡ true → m .empty ≡ true → emptyDisturbance f ≡ true)
-unfolding emptyDisturbance meaning kindOf
-is-empty f next s w c l z =
-    let t = three (tag f) (body f) next s z in
-    let m : Meaning = meaning disturbance (body f) next s in
-    let e : meaning (kindOf (tag f)) (body f) next s ≡ m = ap (λ k. meaning (kindOf k) (body f) next s) (eqb-true (tag f) 3 t) in
-    let counts : badDimension (dimension (body f)) ≡ false = sym (ap (λ (m : Meaning). m .wrongCounts) e) ∙ c in
-    let long : eqb (length (body f)) (1 + 4 * dimension (body f)) ≡ true =
-    sym (ap (λ (m : Meaning). eqb (length (body f)) (m .bytes)) e) ∙ l in
-    let zeros : allZero (givenRadii (body f)) ≡ true = sym (ap (λ (m : Meaning). m .empty) e) ∙ z in
-    rw (w, t, counts, long, zeros)
+-- a whole disturbance with its counts and length, whose radii are all zero, is an empty one
+is-empty : (f : List ℕ) → cut f ≡ false → eqb (tag f) 3 ≡ true → badDimension (dimension (body f)) ≡ false
+    → not (eqb (length (body f)) (1 + 4 * dimension (body f))) ≡ false → allZero (givenRadii (body f)) ≡ true → emptyDisturbance f ≡ true
+unfolding emptyDisturbance
+is-empty f w t c l z = rw (w, t, c, not-false (eqb (length (body f)) (1 + 4 * dimension (body f))) l, z)
 
 -- ---- causes left out
 -- the other numbers are answered as before where those with one number are left out
@@ -149,22 +124,51 @@ placed (suc c) zero l h (t ∷ f) e = absurd (omega arith)
 placed (suc c) (suc m) l h (t ∷ f) e = e
 
 -- ---- a field that is refused with 14
-module _ (st : State) (f : List ℕ) (e : refusal st f ≡ some 14) where
-  asked : All (λ c. c .holds ≡ false) (take 8 (causes st f)) × (firstOf (drop 8 (causes st f)) ≡ some 14)
-  unfolding causes any
-  asked = passed-before 14 (take 8 (causes st f)) (drop 8 (causes st f)) refl e
+-- the causes of a field, if it is of this kind
+abbrev causesAs : Kind → State → List ℕ → List Cause
+causesAs k st f =
+    (12 if ltb lastField (st .count)) ∷ (2 if misplaced (st .count) f) ∷ (1 if cut f)
+    ∷ ofBody (meaning k (body f) (st .next) (current st)) (length (body f))
 
-  told : meant st f .empty ≡ true
-  unfolding causes any
-  told = first-holds (14 if meant st f .empty) (drop 9 (causes st f)) 14 refl (asked .1)
+causes-as : {k : Kind} (st : State) (f : List ℕ) → kindOf (tag f) ≡ k → causes st f ≡ causesAs k st f
+unfolding causes
+causes-as st f e = ap (λ k. causesAs k st f) e
+
+-- it has tag 3, since the causes of no other kind have that number
+tag-three : (st : State) (f : List ℕ) → refusal st f ≡ some 14 → tag f ≡ 3
+unfolding causes any
+tag-three st f e = go (eqb (describe (kindOf (tag f)) .tag) 3) refl
+  where
+    go : (b : Bool) → eqb (describe (kindOf (tag f)) .tag) 3 ≡ b → tag f ≡ 3
+    go true p =
+        let t = eqb-true (describe (kindOf (tag f)) .tag) 3 p in
+        sym (tag-of (tag f) (omega (arith, t))) ∙ t
+    go false p = absurd (not-answered 14 (causes st f)
+        (not-there 14 (causes st f) (laws (kindOf (tag f)) .only-three (body f) (st .next) (current st) (length (body f)) p)) e)
+
+module _ (st : State) (f : List ℕ) (e : refusal st f ≡ some 14) where
+  is-three : tag f ≡ 3
+  is-three = tag-three st f e
+
+  disturbs : kindOf (tag f) ≡ disturbance
+  unfolding kindOf
+  disturbs = ap kindOf is-three
+
+  asked : All (λ c. c .holds ≡ false) (take 8 (causesAs disturbance st f)) × (firstOf (drop 8 (causesAs disturbance st f)) ≡ some 14)
+  unfolding meaning any
+  asked = passed-before 14 (take 8 (causesAs disturbance st f)) (drop 8 (causesAs disturbance st f)) refl
+      (ap firstOf (sym (causes-as st f disturbs)) ∙ e)
 
   refused-empty : emptyDisturbance f ≡ true
-  unfolding causes
+  unfolding meaning any
   refused-empty = go (asked .0)
     where
-      go : All (λ c. c .holds ≡ false) (take 8 (causes st f)) → emptyDisturbance f ≡ true
+      zeros : allZero (givenRadii (body f)) ≡ true
+      zeros = first-holds (14 if allZero (givenRadii (body f))) (drop 9 (causesAs disturbance st f)) 14 refl (asked .1)
+
+      go : All (λ c. c .holds ≡ false) (take 8 (causesAs disturbance st f)) → emptyDisturbance f ≡ true
       go (more late (more place (more end (more short (more counts (more bytes rest)))))) =
-          is-empty f (st .next) (current st) end counts (not-false _ bytes) told
+          is-empty f end (eq-eqb (tag f) 3 is-three) counts bytes zeros
 
 -- Only an empty disturbance is refused with 14.
 pub only-empty : OnlyEmpty
@@ -234,12 +238,15 @@ module _ (st : State) (f : List ℕ) where
   answer place o e = not-refused (st .over) (refusal st f) _ _ _ o e
 
 -- the tests of the old run that an empty disturbance passed
-pub old-placed : (st : State) (f : List ℕ) → oldRefusal st f ≡ none
-    → (misplaced (st .count) f ≡ false) × (meant st f .wrongDimension ≡ false)
-unfolding oldCauses causes
-old-placed st f e = go (those-all (causes st f) (no-cause (oldCauses st f) e)) where
-  go : All (λ c. not (eqb (c .number) 14) ≡ true → c .holds ≡ false) (causes st f)
-      → (misplaced (st .count) f ≡ false) × (meant st f .wrongDimension ≡ false)
+pub old-placed : (st : State) (f : List ℕ) → Emptied f → oldRefusal st f ≡ none
+    → (misplaced (st .count) f ≡ false) × (differs (dimension (body f)) (current st .dimension) ≡ false)
+unfolding oldCauses meaning
+old-placed st f d e = go (subst (All Asked) (causes-as st f (kind-of f d)) (those-all (causes st f) (no-cause (oldCauses st f) e))) where
+  Asked : Cause → Type 0
+  Asked c = not (eqb (c .number) 14) ≡ true → c .holds ≡ false
+
+  go : All Asked (causesAs disturbance st f)
+      → (misplaced (st .count) f ≡ false) × (differs (dimension (body f)) (current st .dimension) ≡ false)
   go (more late (more place (more end (more short (more counts (more bytes (more sizes rest))))))) = (place refl, sizes refl)
 
 -- it came after the start set
@@ -251,7 +258,7 @@ after-start st f d p = go (st .count) p where
 
 -- ---- what an empty disturbance leaves
 module _ (c : ℕ) (st : State) (f : List ℕ) (h : Sound (counting c st)) (l : 0 < c) (d : Emptied f)
-    (w : meant st f .wrongDimension ≡ false) where
+    (w : differs (dimension (body f)) (current st .dimension) ≡ false) where
   by-kind : Kind → Meaning
   by-kind k = meaning k (body f) (st .next) (current st)
 
@@ -263,7 +270,7 @@ module _ (c : ℕ) (st : State) (f : List ℕ) (h : Sound (counting c st)) (l : 
     where
       long : length (givenRadii (body f)) ≡ length (current st .radii .given)
       long = given-radii (body f)
-          ∙ same (dimension (body f)) (current st .dimension) (sym (ap (λ k. by-kind k .wrongDimension) (kind-of f d)) ∙ w)
+          ∙ same (dimension (body f)) (current st .dimension) w
           ∙ sym (h .valid l .shaped .radii-long .given-long)
 
   -- all but the count is as it was
@@ -285,21 +292,24 @@ module _ {st : State} (h : Sound st) (f : List ℕ) (e : refusal st f ≡ some 1
   d : Emptied f
   d = emptied f (only-empty st f e)
 
-  passed : (st .count ≤ lastField) × (0 < st .count) × (oldRefusal st f ≡ none) × (meant st f .wrongDimension ≡ false)
-  unfolding causes oldCauses those meaning
+  passed : (st .count ≤ lastField) × (0 < st .count) × (oldRefusal st f ≡ none)
+      × (differs (dimension (body f)) (current st .dimension) ≡ false)
+  unfolding oldCauses those meaning
   passed = go (asked st f e .0)
     where
-      is : meant st f ≡ meaning disturbance (body f) (st .next) (current st)
-      is = ap (λ k. meaning k (body f) (st .next) (current st)) (kind-of f d)
+      was : oldRefusal st f ≡ firstOf (those (λ c. not (eqb (c .number) 14)) (causesAs disturbance st f))
+      was = ap (λ cs. firstOf (those (λ c. not (eqb (c .number) 14)) cs)) (causes-as st f (kind-of f d))
 
-      go : All (λ c. c .holds ≡ false) (take 8 (causes st f))
-          → (st .count ≤ lastField) × (0 < st .count) × (oldRefusal st f ≡ none) × (meant st f .wrongDimension ≡ false)
+      go : All (λ c. c .holds ≡ false) (take 8 (causesAs disturbance st f))
+          → (st .count ≤ lastField) × (0 < st .count) × (oldRefusal st f ≡ none)
+          × (differs (dimension (body f)) (current st .dimension) ≡ false)
       go (more late (more place (more end (more short (more counts (more bytes (more sizes (more range t)))))))) =
           let l = after-start st f d place in
-          let narrow = ap tooWide (result-stays (st .count) st f h l d sizes) ∙ h .valid l .narrow in
-          let all = none-first (more late (more place (more end (more short (more counts (more bytes (more sizes (more range
-          (more (ap (λ (m : Meaning). m .disordered) is) (more (ap (λ (m : Meaning). m .wide) is)
-          (more (ap (λ (m : Meaning). m .manyFactors) is) (more narrow t)))))))))))) in
+          let narrow =
+          ap tooWide (sym (ap (λ k. meaning k (body f) (st .next) (current st) .result) (kind-of f d))
+          ∙ result-stays (st .count) st f h l d sizes) ∙ h .valid l .narrow in
+          let all = was ∙ none-first (more late (more place (more end (more short (more counts (more bytes (more sizes (more range
+          (more narrow t))))))))) in
           (ltb-false _ _ late, l, all, sizes)
 
   only-counted : st .over ≡ false → OnlyCounted st f

@@ -21,8 +21,8 @@ use Rattle.model.specs.Motion.{Picks, Moment, beginning, follow, Unsafe,
 use Rattle.model.specs.Text as Text
 use Rattle.model.specs.Text.{linesFrom, printed}
 use Rattle.model.proofs.LastLine.{refusal-is-last}
-use Rattle.model.proofs.Accepted.{Passed}
-use Rattle.model.proofs.ByKind.{dimension-same}
+use Rattle.model.proofs.Accepted.{holdsAt, Passed, same}
+use Rattle.model.proofs.Kind.{laws}
 use Rattle.model.proofs.Enclosed as Over
 use Rattle.model.specs.Reading.{Line, lines}
 use Rattle.model.specs.Promised.{acceptedFrom, placeOf, coordinatesAfter, coordinatesFrom, momentFrom, saying, LineOf, TrueOf}
@@ -31,7 +31,7 @@ use Rattle.model.proofs.TextParts.{reads-nothing, line-stays}
 use Rattle.model.proofs.Spoken.{inTurn, reads-refusal, reads-folded, reads-end}
 use Rattle.model.proofs.LineAnswered as Answered
 use Rattle.model.proofs.LineAnswered.{said, some-refusal, passed, accepted-outcome, accepted-after, answered, next-coordinates}
-use Rattle.model.proofs.LineAnswered.{leaves-coordinates, reads-accepted}
+use Rattle.model.proofs.LineAnswered.{reads-accepted}
 
 -- ---- the ends in turn
 turn-length : (lows highs : List ℤ) → length lows ≡ length highs → length (inTurn lows highs) ≡ 2 * length lows
@@ -57,9 +57,9 @@ turn-at (l ∷ lows) (h ∷ highs) e (suc i) q =
 -- a check's body has the coordinates of the set
 check-coordinates : (k : Kind) (b : List ℕ) (next : ℕ) (s : Zonotope) → k ≡ check → Passed (meaning k b next s)
     → dimension b ≡ coordinatesAfter k b (s .dimension)
-unfolding coordinatesAfter
+unfolding coordinatesAfter meaning holdsAt
 check-coordinates k b next s e =
-    subst (λ k. Passed (meaning k b next s) → dimension b ≡ coordinatesAfter k b (s .dimension)) (sym e) (dimension-same b next s check)
+    subst (λ k. Passed (meaning k b next s) → dimension b ≡ coordinatesAfter k b (s .dimension)) (sym e) (λ p. same _ _ (p .not-at 5))
 
 module _ (st : State) (f : List ℕ) (e : accepted st f ≡ true) where
   abbrev n : ℕ
@@ -74,11 +74,11 @@ module _ (st : State) (f : List ℕ) (e : accepted st f ≡ true) where
   -- the box that is answered has two ends for each coordinate
   lows-long : length lows ≡ n
   unfolding box
-  lows-long = length-tab _ _ ∙ leaves-coordinates (kindOf (tag f)) (body f) (st .next) (current st)
+  lows-long = length-tab _ _ ∙ laws (kindOf (tag f)) .leaves-coordinates (body f) (st .next) (current st)
 
   highs-long : length highs ≡ n
   unfolding box
-  highs-long = length-tab _ _ ∙ leaves-coordinates (kindOf (tag f)) (body f) (st .next) (current st)
+  highs-long = length-tab _ _ ∙ laws (kindOf (tag f)) .leaves-coordinates (body f) (st .next) (current st)
 
   abbrev its : Line
   its = said (st .count) (tag f) (meant st f .outcome)

@@ -17,6 +17,7 @@ use Rattle.whole.specs.Tab.{tab, any, tab-cong, length-tab, getD-tab}
 use Rattle.rational.specs.Sum as Sum
 use Rattle.rational.specs.Sum.{All, more, All-imp, All-map}
 use Rattle.model.specs.Set.{Zonotope, at, plusℕ, span}
+use Rattle.model.specs.Valid.{tooWide}
 use Rattle.model.specs.Limits.{standardWeights, maxEntry, maxConstant, lastField}
 use Rattle.model.specs.Step as Step
 use Rattle.model.specs.Step.{Step, raw, settled}
@@ -28,7 +29,7 @@ use Rattle.model.specs.Body.{stepRows, stepColumns, stepLength, givenSte
 use Rattle.model.specs.Body.{givenWidths}
 use Rattle.model.specs.Field.{step, rangedStep, inside, refused, skipped, badDimension, beyond, negative, differs, badStepRange}
 use Rattle.model.specs.Field.{beyondWith, badWidthRange, negativeWidth, foldsOf, Meaning, meaning}
-use Rattle.model.specs.Run.{State, current, tag, body, kindOf, meant, _if_, firstOf, misplaced, ofBody, causes, refusal}
+use Rattle.model.specs.Run.{State, current, tag, body, kindOf, meant, Cause, _if_, firstOf, misplaced, ofBody, causes, refusal}
 use Rattle.model.specs.Run.{acceptedBy, refusedAt, after, outcome}
 use Rattle.model.specs.Precision.{NoWidths, ZeroWidths, zeroWidths, WithZeroWidths, ZeroWidthsField}
 use Rattle.model.proofs.Vectors.{longer-length, plusℕ-at}
@@ -126,23 +127,9 @@ pub zero-widths : ZeroWidths
 unfolding Ranged.rangedStep gainingStep Step.step
 zero-widths weights p d s h = ap (settled weights) (raw-stays p d h s)
 
--- a meaning with another length
-abbrev withBytes : ℕ → Meaning → Meaning
-withBytes n m = record {
-  countBytes = m .countBytes;
-  wrongCounts = m .wrongCounts;
-  bytes = n;
-  wrongDimension = m .wrongDimension;
-  outOfRange = m .outOfRange;
-  empty = m .empty;
-  disordered = m .disordered;
-  wide = m .wide;
-  manyFactors = m .manyFactors;
-  result = m .result;
-  folds = m .folds;
-  next = m .next;
-  outcome = m .outcome;
-}
+-- a meaning with other causes
+abbrev withCauses : (ℕ → List Cause) → Meaning → Meaning
+withCauses causes m = record { causes = causes; result = m .result; folds = m .folds; next = m .next; outcome = m .outcome }
 
 -- ---- the body of a step, and half-widths of 0
 abbrev ranged : List ℕ → List ℕ
@@ -177,7 +164,11 @@ module _ (b : List ℕ) where
           ap (λ n. ltb n 2) e
       go (no l) = le-ltb (length (ranged b)) 2 (omega (arith, long)) ∙ sym (le-ltb (length b) 2 (omega arith))
 
-  -- where the step's length is right, the meaning is the step's, but the half-widths' bytes are asked for too
+  same-counts : badDimension (stepRows (ranged b)) || badDimension (stepColumns (ranged b))
+      ≡ badDimension (stepRows b) || badDimension (stepColumns b)
+  same-counts = ap₂ (λ m n. badDimension m || badDimension n) (alike 0) (alike 1)
+
+  -- where the step's length is right, the meaning is the step's, and its causes hold where the step's do
   module _ (next : ℕ) (s : Zonotope) (e : length b ≡ stepLength b) where
     linear-zero : All (λ z. z ≡ pos 0) (linearWidthWords (ranged b))
     linear-zero = subst (All (λ z. z ≡ pos 0)) (sym (words-like (ranged b) b alike _ _)) (words-past b _ _ (omega (arith, step-long)))
@@ -202,34 +193,42 @@ module _ (b : List ℕ) where
     same-raw : rangedRaw (givenStep (ranged b)) (givenWidths (ranged b)) s ≡ raw (givenStep b) s
     same-raw = raw-stays (givenStep (ranged b)) (givenWidths (ranged b)) no-widths s ∙ ap (λ p. raw p s) same-step
 
-    zero-widths-meaning : meaning rangedStep (ranged b) next s ≡ withBytes (stepLength b + widthBytes b) (meaning step b next s)
+    zero-widths-meaning : meaning rangedStep (ranged b) next s
+        ≡ withCauses (meaning rangedStep (ranged b) next s .causes) (meaning step b next s)
     unfolding meaning Ranged.rangedStep gainingStep Step.step
     zero-widths-meaning = λ i. record {
-      countBytes = 2;
-      wrongCounts = ap₂ (λ m n. badDimension m || badDimension n) (alike 0) (alike 1) i;
-      bytes = ranged-long i;
-      wrongDimension = ap (λ n. differs n (s .dimension)) (alike 1) i;
-      outOfRange = (ap (λ x. badStepRange (givenStep (ranged b)) || (x || badWidthRange (givenStep (ranged b)) (givenWidths (ranged b))))
-          not-negative ∙ range-stays (givenStep (ranged b)) (givenWidths (ranged b)) no-widths ∙ ap badStepRange same-step) i;
-      empty = false;
-      disordered = false;
-      wide = false;
-      manyFactors = false;
+      causes = meaning rangedStep (ranged b) next s .causes;
       result = settled standardWeights (same-raw i);
       folds = foldsOf (Step.rounded (same-raw i));
       next = next;
       outcome = inside (box (settled standardWeights (same-raw i)));
     }
 
--- the first cause of a body whose length is wrong
-wrong-length : (m : Meaning) (bytes : ℕ) → eqb bytes (m .bytes) ≡ false
-    → firstOf (ofBody m bytes) ≡ cond (ltb bytes (m .countBytes)) (some 3) (cond (m .wrongCounts) (some 4) (some 3))
-unfolding firstOf
-wrong-length m bytes e = rw e
+    same-causes : ofBody (meaning rangedStep (ranged b) next s) (length (ranged b)) ≡ ofBody (meaning step b next s) (length b)
+    unfolding meaning Ranged.rangedStep gainingStep Step.step
+    same-causes = λ i.
+        (3 if count-bytes i)
+        ∷ (4 if same-counts i)
+        ∷ (3 if not (exact i))
+        ∷ (5 if ap (λ n. differs n (s .dimension)) (alike 1) i)
+        ∷ (6 if range i)
+        ∷ (10 if tooWide (settled standardWeights (same-raw i)))
+        ∷ []
+      where
+        exact : eqb (length (ranged b)) (rangedLength (ranged b)) ≡ eqb (length b) (stepLength b)
+        exact = eq-eqb (length (ranged b)) (rangedLength (ranged b)) (omega (arith, long, ranged-long)) ∙ sym (eq-eqb _ _ e)
 
--- the first cause by the two tests of a body's length
-abbrev byLength : Meaning → Bool → Bool → Option ℕ
-byLength m short exact = firstOf ((3 if short) ∷ (4 if m .wrongCounts) ∷ (3 if not exact) ∷ drop 3 (ofBody m 0))
+        range : badStepRange (givenStep (ranged b)) || (negativeWidth (ranged b)
+            || badWidthRange (givenStep (ranged b)) (givenWidths (ranged b))) ≡ badStepRange (givenStep b)
+        range =
+            ap (λ x. badStepRange (givenStep (ranged b)) || (x || badWidthRange (givenStep (ranged b)) (givenWidths (ranged b))))
+            not-negative ∙ range-stays (givenStep (ranged b)) (givenWidths (ranged b)) no-widths ∙ ap badStepRange same-step
+
+-- the first cause of a body whose length is wrong
+wrong-length : (short counts exact : Bool) (rest : List Cause) → exact ≡ false
+    → firstOf ((3 if short) ∷ (4 if counts) ∷ (3 if not exact) ∷ rest) ≡ cond short (some 3) (cond counts (some 4) (some 3))
+unfolding firstOf
+wrong-length short counts exact rest e = rw e
 
 -- both bodies are refused for the same cause, or neither is
 same-cause : (b : List ℕ) (next : ℕ) (s : Zonotope)
@@ -239,18 +238,14 @@ same-cause b next s = go (eqb (length b) (stepLength b)) refl
   where
     go : (x : Bool) → eqb (length b) (stepLength b) ≡ x
         → firstOf (ofBody (meaning rangedStep (ranged b) next s) (length (ranged b))) ≡ firstOf (ofBody (meaning step b next s) (length b))
-    go true p =
-        let e = eqb-true (length b) (stepLength b) p in
-        ap (λ m. firstOf (ofBody m (length (ranged b)))) (zero-widths-meaning b next s e)
-        ∙ ap₂ (byLength (meaning step b next s)) (count-bytes b)
-        (eq-eqb (length (ranged b)) (stepLength b + widthBytes b) (omega (arith, long b)) ∙ sym p)
+    go true p = ap firstOf (same-causes b next s (eqb-true (length b) (stepLength b) p))
     go false p =
         let n = eqb-false (length b) (stepLength b) p in
-        wrong-length (meaning rangedStep (ranged b) next s) (length (ranged b))
+        wrong-length (ltb (length (ranged b)) 2) _ (eqb (length (ranged b)) (rangedLength (ranged b)))
+        (drop 3 (ofBody (meaning rangedStep (ranged b) next s) (length (ranged b))))
         (ne-eqb (length (ranged b)) (rangedLength (ranged b)) (λ q. n (omega (arith, long b, ranged-long b))))
-        ∙ ap₂ (λ x w. cond x (some 3) (cond w (some 4) (some 3))) (count-bytes b)
-        (ap₂ (λ m n. badDimension m || badDimension n) (alike b 0) (alike b 1))
-        ∙ sym (wrong-length (meaning step b next s) (length b) p)
+        ∙ ap₂ (λ x w. cond x (some 3) (cond w (some 4) (some 3))) (count-bytes b) (same-counts b)
+        ∙ sym (wrong-length (ltb (length b) 2) _ (eqb (length b) (stepLength b)) (drop 3 (ofBody (meaning step b next s) (length b))) p)
 
 -- ---- the fields
 -- both are out of place or neither is
@@ -281,16 +276,22 @@ module _ (st : State) (f g : List ℕ) (h : WithZeroWidths f g) where
   same-refusals = λ i. cond (ltb lastField (st .count)) (some 12) (cond (same-place (st .count) f g (h .tags .0) (h .tags .1) i) (some 2)
       (cond ((h .whole .0 ∙ sym (h .whole .1)) i) (some 1) (same-first i)))
 
-  -- where neither is refused, the length is right, and what doesn't look at it is the same
-  module _ {A : Type 0} (y : Meaning → A) (any-length : (m : Meaning) (n : ℕ) → y (withBytes n m) ≡ y m) where
+  -- where neither is refused, the length is right, and what doesn't look at the causes is the same
+  module _ {A : Type 0} (y : Meaning → A) (any-causes : (m : Meaning) (causes : ℕ → List Cause) → y (withCauses causes m) ≡ y m) where
     same-meant : refusal st g ≡ none → y (meant st f) ≡ y (meant st g)
     unfolding causes meaning
-    same-meant e = go (no-cause (causes st g) e)
+    same-meant e = by-kind (of-body (no-cause (causes st g) e))
       where
-        go : All (λ c. c .holds ≡ false) (causes st g) → y (meant st f) ≡ y (meant st g)
-        go (more late (more place (more end (more short (more counts (more exact rest)))))) =
-            let l = eqb-true _ _ (not-false _ exact) ∙ ap (λ (m : Meaning). m .bytes) g-means in
-            ap y f-means ∙ ap y (zero-widths-meaning (body g) (st .next) (current st) l) ∙ any-length _ _ ∙ sym (ap y g-means)
+        Passes : Meaning → Type 0
+        Passes m = All (λ c. c .holds ≡ false) (ofBody m (length (body g)))
+
+        of-body : All (λ c. c .holds ≡ false) (causes st g) → Passes (meaning step (body g) (st .next) (current st))
+        of-body (more late (more place (more end rest))) = subst Passes g-means rest
+
+        by-kind : Passes (meaning step (body g) (st .next) (current st)) → y (meant st f) ≡ y (meant st g)
+        by-kind (more short (more counts (more exact rest))) =
+            let l = eqb-true _ _ (not-false _ exact) in
+            ap y f-means ∙ ap y (zero-widths-meaning (body g) (st .next) (current st) l) ∙ any-causes _ _ ∙ sym (ap y g-means)
 
     same-choice : (x : A) (z : ℕ → A) → cond (st .over) x (elim (refusal st f) [ none ↦ y (meant st f) | some n ↦ z n ])
         ≡ cond (st .over) x (elim (refusal st g) [ none ↦ y (meant st g) | some n ↦ z n ])
@@ -307,6 +308,6 @@ pub zero-widths-field : ZeroWidthsField
 unfolding after outcome
 zero-widths-field st f g h = record {
   same-refusal = same-refusals st f g h;
-  same-state = same-choice st f g h (acceptedBy st) (λ m n. refl) st (λ n. refusedAt st);
-  same-outcome = λ place. same-choice st f g h (λ m. m .outcome) (λ m n. refl) skipped (λ n. refused n place);
+  same-state = same-choice st f g h (acceptedBy st) (λ m causes. refl) st (λ n. refusedAt st);
+  same-outcome = λ place. same-choice st f g h (λ m. m .outcome) (λ m causes. refl) skipped (λ n. refused n place);
 }

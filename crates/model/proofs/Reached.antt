@@ -29,7 +29,7 @@ use Rattle.model.specs.Body.{givenSet, givenStep, givenWidths, givenRadi
 use Rattle.model.specs.Field.{rangedStep, meaning, beyondWith}
 use Rattle.model.specs.Run.{tag, body, kindOf, firstOf, misplaced, cut, causes, accepted, after, withFolds}
 use Rattle.model.specs.Points.{monomial, termsAt, generatorsAt, valueAt}
-use Rattle.model.specs.Motion.{Picks, InWidths, Allowed, offsetLimit, move, valuesAfter, markAfter, follow, Always}
+use Rattle.model.specs.Motion.{Picks, InWidths, Allowed, offsetLimit, move, withValues, valuesAfter, markAfter, follow, Always}
 use Rattle.model.specs.Reached.{sixFields, linear, quadratic, linearWidths, quadraticWidths, entry, pair, radii, Parts, followed}
 use Rattle.model.specs.Reached.{picks, x, Lands, Reached}
 use Rattle.model.proofs.Radii.{radius-given}
@@ -57,7 +57,7 @@ unfolding followed follow accepted after withFolds folds causes firstOf misplace
     independentSum tiedSum renumbered joined union insertIdentifier align disturb hull blended opposite Ranged.rangedStep gainingStep gain
     rounded raw rawCentre rawLinear rawSquare rawPair pairs remainder dot bilinear inexactAt carriedAt roundedAt round exact inexact
     finish dropUnused foldGenerators foldTerms foldHigh dropZeroGenerators dropZeroTerms collectTerms insert collectInto those foldAll
-    foldTimes keepAt longer move valuesAfter markAfter valueAt termsAt generatorsAt monomial power sum Always
+    foldTimes keepAt longer move withValues valuesAfter markAfter valueAt termsAt generatorsAt monomial power sum Always
 lands t = record {
   at-start = λ i. two-generators (pair 100 50 i) (pair 40 20 i) (pair 6 10 i) (t .numbers 0 0) (pair 3 1 i) (t .numbers 0 1)
       (pair 30 8 i *ℚ t .offsets 0 i) (*ℚ-one (t .values 5));

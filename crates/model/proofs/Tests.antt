@@ -109,6 +109,11 @@ no-cause (c ∷ cs) e = go (c .holds) refl e (no-cause cs) where
   go true p q ih = absurd (Option·none-ne-some _ (sym q))
   go false p q ih = more p (ih q)
 
+-- a number that no cause has, none has that holds
+pub not-there : (n : ℕ) (cs : List Cause) → any (λ c. eqb (c .number) n) cs ≡ false
+    → any (λ c. eqb (c .number) n && c .holds) cs ≡ false
+not-there n cs e = false-any _ (Sum.All-imp (λ c h. rw h) (any-false _ cs e))
+
 -- a number that no cause has that holds isn't the answer
 pub not-answered : (n : ℕ) (cs : List Cause) → any (λ c. eqb (c .number) n && c .holds) cs ≡ false → firstOf cs ≡ some n → ⊥
 unfolding firstOf any

@@ -7,7 +7,11 @@
 --     Ranged       the step whose entries are known within half-widths
 --     Hull         the hull with a second set
 --     Bytes, Body  numbers in a run file, and what the body of a field says
---     Field        the kinds of field: what each asks and gives
+--     Points       the points of a set at given factor values
+--     Moving       what a motion picks, and the images and points that it moves by
+--     Described    what a kind of field is: causes of refusal, result, where it takes a motion, its rule for radii
+--     Kind         the kinds of field, a file each
+--     Field        what a field of a kind means
 --     Run          the state, the refusals in their order, one field, a list of fields, a whole input
 --     Rewrite      what the program `rewrite` leaves of a stored file
 --     Text         what the program prints: numbers, lines, the output of a whole input
@@ -15,7 +19,6 @@
 --     Library      single operations on records: their refusals in order
 --     Pairs        the order of a step's pairs
 --     Marked       the table of marked cases
---     Points       the points of a set at given factor values
 --     Motion       what a motion is, and what is claimed of every motion (demand 3)
 --     Reached      that a motion may go to its limits, and where it goes
 --     Reading      an output as a person reads it: lines, words, numbers
@@ -34,6 +37,10 @@ pub mod Ranged
 pub mod Hull
 pub mod Bytes
 pub mod Body
+pub mod Points
+pub mod Moving
+pub mod Described
+pub mod Kind
 pub mod Field
 pub mod Run
 pub mod Rewrite
@@ -42,7 +49,6 @@ pub mod Rest
 pub mod Library
 pub mod Pairs
 pub mod Marked
-pub mod Points
 pub mod Motion
 pub mod Reached
 pub mod Reading

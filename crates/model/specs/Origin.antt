@@ -13,31 +13,14 @@ use Rattle.model.specs.Step.{raw, remainder, inexactAt}
 use Rattle.model.specs.Ranged.{gain}
 use Rattle.model.specs.Hull.{larger, blended}
 use Rattle.model.specs.Body.{radiusWords, givenSet, givenStep, givenWidths, stepColumns, givenRadii}
-use Rattle.model.specs.Field.{Kind, start, step, disturbance, independent, tied, reduction, check, hull, rangedStep, unknown}
+use Rattle.model.specs.Field.{Kind, describe}
+pub use Rattle.model.specs.Described.{unitsOf, halfOf}
 use Rattle.model.specs.Run.{State, begin, current, tag, body, kindOf, meant, accepted, after, run}
 
 -- ---- the radius as one number
--- S in whole units, and half of a count, each rounded up
-abbrev pub unitsOf : ℕ → ℕ
-unitsOf S = (S + 16777215) / scale
-
-abbrev pub halfOf : ℕ → ℕ
-halfOf count = (count + 1) / 2
-
 -- the radius of coordinate i after a field, but for what folding adds: the field was given the set s, and the radii were ρ before
 unfoldable pub ruled : Kind → List ℕ → ℕ → Zonotope → (ℕ → ℕ) → ℕ → ℕ
-ruled start b next s ρ i = natAbs (at (radiusWords b) i)
-ruled step b next s ρ i = let p = givenStep b in unitsOf (remainder p s i) + halfOf (inexactAt (raw p s) i)
-ruled rangedStep b next s ρ i =
-    let p = givenStep b in unitsOf (remainder p s i + gain (stepColumns b) (givenWidths b) s i) + halfOf (inexactAt (raw p s) i)
-ruled hull b next s ρ i =
-    let u = givenSet b in larger (independentSize s i) (independentSize u i) + halfOf (inexactAt (blended next s u) i)
-ruled tied b next s ρ i = ρ i + natAbs (at (radiusWords b) i)
-ruled independent b next s ρ i = ρ i + natAbs (at (radiusWords b) i)
-ruled disturbance b next s ρ i = ρ i + getD (givenRadii b) i 0
-ruled reduction b next s ρ i = ρ i
-ruled check b next s ρ i = ρ i
-ruled unknown b next s ρ i = ρ i
+ruled k b next s ρ i = describe k .ruled b next s ρ i
 
 -- after a field: where it is accepted by its rule and what folding adds, else as before
 abbrev pub ruledAfter : State → List ℕ → (ℕ → ℕ) → ℕ → ℕ

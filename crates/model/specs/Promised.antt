@@ -9,8 +9,8 @@ use lib.IntN.{pos}
 use Rattle.rational.specs.Rational.{ι, 1ℚ, _≤ℚ_}
 use Rattle.rational.specs.Bounds.{Within}
 use Rattle.model.specs.Set.{at}
-use Rattle.model.specs.Body.{dimension, stepRows, givenStep, givenWidths, givenHalfspaces}
-use Rattle.model.specs.Field.{Kind, start, step, disturbance, independent, tied, reduction, check, hull, rangedStep, unknown}
+use Rattle.model.specs.Body.{givenStep, givenWidths, givenHalfspaces}
+use Rattle.model.specs.Field.{Kind, check, rangedStep, describe}
 use Rattle.model.specs.Run.{State, begin, tag, body, kindOf, refusal, accepted, after, run, fields}
 use Rattle.model.specs.Points.{Vector, InRange}
 use Rattle.model.specs.Motion.{Picks, offsetLimit, InWidths, Allowed, Moment, beginning, follow, Unsafe}
@@ -38,16 +38,7 @@ placeOf (f ∷ fs) (suc m) = length f + placeOf fs m
 
 -- how many coordinates a position has after an accepted field, where it had n
 unfoldable pub coordinatesAfter : Kind → List ℕ → ℕ → ℕ
-coordinatesAfter start b n = dimension b
-coordinatesAfter step b n = stepRows b
-coordinatesAfter rangedStep b n = stepRows b
-coordinatesAfter disturbance b n = n
-coordinatesAfter independent b n = n
-coordinatesAfter tied b n = n
-coordinatesAfter reduction b n = n
-coordinatesAfter check b n = n
-coordinatesAfter hull b n = n
-coordinatesAfter unknown b n = n
+coordinatesAfter k b n = describe k .coordinates b n
 
 -- after the fields up to m, which are accepted
 unfoldable pub coordinatesFrom : ℕ → List (List ℕ) → ℕ → ℕ

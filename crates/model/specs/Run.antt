@@ -1,5 +1,5 @@
 -- A run: its state, one field, a list of fields, and a whole input cut into fields.
-use mathlib.Core.List.{List, [], _∷_}
+use mathlib.Core.List.{List, [], _∷_, _++_}
 use mathlib.Core.Option.{Option, none, some, Option·getD}
 use mathlib.Core.Bool.{Bool, true, false, not, cond, _||_}
 use Prim.Native.Nat.{ℕ, zero, suc, _+_}
@@ -10,8 +10,9 @@ use Rattle.model.specs.Limits.{firstFresh, lastField, lastTag, maxDimens
 use Rattle.model.specs.Set.{Zonotope, blank}
 use Rattle.model.specs.Valid.{tooWide}
 use Rattle.model.specs.Bytes.{byte, number}
-use Rattle.model.specs.Field.{Kind, start, step, disturbance, independent, tied, reduction, check, hull, rangedStep, unknown}
+use Rattle.model.specs.Field.{Kind, unknown, kinds}
 use Rattle.model.specs.Field.{Outcome, refused, skipped, Meaning, meaning}
+pub use Rattle.model.specs.Described.{Cause, _if_}
 
 -- ---- the state: the current set, if any; the next fresh identifier (document 01: the mark); how many fields were accepted; whether one
 -- was refused; for each of the most coordinates what folding added to its radius in the accepted fields
@@ -52,25 +53,13 @@ body f = take (bodyLength f) (drop 3 f)
 
 -- the kind of a tag
 unfoldable pub kindOf : ℕ → Kind
-kindOf t =
-    cond (eqb t 1) start (cond (eqb t 2) step (cond (eqb t 3) disturbance (cond (eqb t 4) independent
-    (cond (eqb t 5) tied (cond (eqb t 6) reduction (cond (eqb t 7) check (cond (eqb t 8) hull
-    (cond (eqb t 9) rangedStep unknown))))))))
+kindOf t = getD kinds t unknown
 
 -- what the field means in this state
 abbrev pub meant : State → List ℕ → Meaning
 meant st f = meaning (kindOf (tag f)) (body f) (st .next) (current st)
 
 -- ---- refusals
--- a cause, with its number
-infix 3 _if_
-pub record Cause : Type 0 where
-  pub number : ℕ
-  pub holds : Bool
-
-abbrev pub _if_ : ℕ → Bool → Cause
-n if b = record { number = n; holds = b }
-
 -- the number of the first cause that holds
 unfoldable pub firstOf : List Cause → Option ℕ
 firstOf [] = none
@@ -88,18 +77,7 @@ cut f = ltb (length f) 3 || ltb (length f) (3 + bodyLength f)
 
 -- the causes of a refusal by what a field means, where its body has this many bytes
 abbrev pub ofBody : Meaning → ℕ → List Cause
-ofBody m bytes =
-    (3 if ltb bytes (m .countBytes))
-    ∷ (4 if m .wrongCounts)
-    ∷ (3 if not (eqb bytes (m .bytes)))
-    ∷ (5 if m .wrongDimension)
-    ∷ (6 if m .outOfRange)
-    ∷ (14 if m .empty)
-    ∷ (7 if m .disordered)
-    ∷ (8 if m .wide)
-    ∷ (9 if m .manyFactors)
-    ∷ (10 if tooWide (m .result))
-    ∷ []
+ofBody m bytes = m .causes bytes ++ ((10 if tooWide (m .result)) ∷ [])
 
 -- all causes, in the order in which they are asked: too many fields, the tag, the header, the body
 unfoldable pub causes : State → List ℕ → List Cause

@@ -1,0 +1,50 @@
+-- The laws of: the polynomial step.
+use mathlib.Core.Path.{refl, sym}
+use mathlib.Core.Bool.{true≢false}
+use native.Mathlib.Nat.{add-zero}
+use native.Mathlib.Omega.{arith}
+use Rattle.model.specs.Limits.{maxTerms, maxGenerators, standardWeights}
+use Rattle.model.specs.Step.{raw, rounded}
+use Rattle.model.specs.Body.{givenStep}
+use Rattle.model.specs.Field.{step, meaning}
+use Rattle.model.specs.Motion.{offsetLimit, move, withValues, valuesAfter, markAfter}
+use Rattle.model.specs.Origin.{ruled}
+use Rattle.model.specs.Promised.{coordinatesAfter}
+use Rattle.model.proofs.Held.{step-held}
+use Rattle.model.proofs.Coordinates.{step-coordinates}
+use Rattle.model.proofs.Accepted.{holdsAt, same}
+use Rattle.model.proofs.FinishCovers.{finish-covers}
+use Rattle.model.proofs.StepPoint.{step-point}
+use Rattle.model.proofs.Folding.{finished-at, rounded-anew}
+use Rattle.model.proofs.RadiusRules.{raw-radius, settled-radius, finished-radius, finished-in, rounded-in, raw-in}
+use Rattle.whole.specs.Tab.{any}
+use Rattle.model.proofs.Laws.{Laws, within, same-next, rows-in, with-box, no-verdict}
+use Rattle.model.specs.Step as Step
+use Rattle.rational.specs.Sum as Sum
+
+pub laws : Laws step
+unfolding meaning coordinatesAfter markAfter valuesAfter move offsetLimit ruled withValues holdsAt within any Step.step givenStep
+laws = record {
+  leaves = λ b next s l h p.
+      let r = rows-in b (p .not-at 4) in
+      same-next refl (step-held standardWeights (h refl) (givenStep b) (r .0) (r .1) (p .result-width));
+  in-order = λ b next s bytes. refl;
+  only-three = λ b next s bytes e. refl;
+  leaves-coordinates = λ b next s. step-coordinates standardWeights (givenStep b) s;
+  answers = λ b next s. with-box refl;
+  judged = λ b next s e. absurd (true≢false (sym e));
+  answered-safe = λ b next s q w i e u. no-verdict refl e;
+  next-counted = λ b next s. sym (add-zero next);
+  fresh-range = λ b p m o c. Sum.none;
+  same-fresh = λ h b. refl;
+  same-move = λ h b x i. refl;
+  keeps = λ b p m next s {α} {x} l w agree i h q.
+      finish-covers standardWeights maxTerms maxGenerators _ .keeps w
+      (step-point (givenStep b) s (sym (same _ _ (q .not-at 5))) w (h refl .1));
+  folds-join = λ b next s i. let r = Step.raw (givenStep b) s in omega (arith, finished-at (rounded r) i, rounded-anew r i);
+  ruled-radius = λ b next s ρ e i h.
+      let p = givenStep b in
+      let r = raw p s in
+      let l = rounded-in r (finished-in (rounded r) h) in
+      omega (arith, finished-radius (rounded r) i, settled-radius r i l, raw-radius p s i (raw-in (λ j. 0) p s .0 l));
+}

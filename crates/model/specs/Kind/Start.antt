@@ -1,0 +1,20 @@
+-- The start set.
+use mathlib.Core.List.{[]}
+use mathlib.Core.Bool.{true, false}
+use lib.IntN.{natAbs}
+use Rattle.model.specs.Set.{at, radius}
+use Rattle.model.specs.Body.{dimension, radiusWords, givenSet}
+use Rattle.model.specs.Moving.{bodyPoint}
+use Rattle.model.specs.Described.{ofSet, Described}
+
+abbrev pub kind : Described
+kind = record {
+  tag = 1;
+  meaning = λ b next s. ofSet b false false (givenSet b) [] next;
+  offsetLimit = λ b i. radius (givenSet b) i;
+  coordinates = λ b n. dimension b;
+  move = λ b p m x i. bodyPoint p m (givenSet b) (p .values) i;
+  fresh = λ b. [];
+  anew = true;
+  ruled = λ b next s ρ i. natAbs (at (radiusWords b) i);
+}

@@ -1,0 +1,24 @@
+-- An unknown tag, refused (2) before anything of this is asked.
+use mathlib.Core.List.{[], _∷_}
+use mathlib.Core.Bool.{false}
+use Rattle.model.specs.Described.{_if_, differs, skipped, Described}
+
+abbrev pub kind : Described
+kind = record {
+  tag = 0;
+  meaning = λ b next s. record {
+    causes = λ bytes.
+        (3 if differs bytes 0)
+        ∷ [];
+    result = s;
+    folds = [];
+    next = next;
+    outcome = skipped;
+  };
+  offsetLimit = λ b i. 0;
+  coordinates = λ b n. n;
+  move = λ b p m x i. x i;
+  fresh = λ b. [];
+  anew = false;
+  ruled = λ b next s ρ i. ρ i;
+}
