@@ -170,6 +170,9 @@ pub record Laws (k : Kind) : Type 0 where
   -- where the set that it is given is held and its tests are passed, what it leaves is held
   pub leaves : (b : List ℕ) (next : ℕ) (s : Zonotope) → firstFresh ≤ next → (starts k ≡ false → Held next s)
       → Passed (meaning k b next s) → Leaves next (meaning k b next s)
+  -- one that begins a run asks nothing of a set, and one that goes on with the parts of the radius finds a set
+  pub alone : starts k ≡ true → (b : List ℕ) (next : ℕ) (s u : Zonotope) → meaning k b next s ≡ meaning k b next u
+  pub goes-on : describe k .anew ≡ false → starts k ≡ false
   -- its causes are asked in the order of document 01, and only a disturbance has 14
   pub in-order : (b : List ℕ) (next : ℕ) (s : Zonotope) (bytes : ℕ) → inOrder (ofBody (meaning k b next s) bytes) ≡ true
   pub only-three : (b : List ℕ) (next : ℕ) (s : Zonotope) (bytes : ℕ) → eqb (describe k .tag) 3 ≡ false

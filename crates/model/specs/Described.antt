@@ -156,5 +156,7 @@ pub record Described : Type 0 where
   pub fresh : List ℕ → List (Picks → ℕ → ℚ)
   -- whether it makes the parts of the radius anew
   pub anew : Bool
+  -- whether it is worked out in the lent work slices
+  pub works : Bool
   -- the radius of coordinate i after it, but for what folding adds: it was given the set s, and the radii were ρ before
   pub ruled : List ℕ → ℕ → Zonotope → (ℕ → ℕ) → ℕ → ℕ

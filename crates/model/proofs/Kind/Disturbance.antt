@@ -22,6 +22,8 @@ unfolding meaning coordinatesAfter markAfter valuesAfter move offsetLimit ruled 
 laws = record {
   leaves = λ b next s l h p.
       same-next refl (disturb-held (h refl) (givenRadii b) (given-radii b ∙ same _ _ (p .not-at 5)) (p .result-width));
+  alone = λ e b next s u. absurd (true≢false (sym e));
+  goes-on = λ e. refl;
   in-order = λ b next s bytes. refl;
   only-three = λ b next s bytes e. absurd (true≢false e);
   leaves-coordinates = λ b next s. refl;

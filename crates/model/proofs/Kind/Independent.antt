@@ -56,6 +56,8 @@ laws = record {
         no-less = omega arith;
         at-most = omega arith;
       };
+  alone = λ e b next s u. absurd (true≢false (sym e));
+  goes-on = λ e. refl;
   in-order = λ b next s bytes. refl;
   only-three = λ b next s bytes e. refl;
   leaves-coordinates = λ b next s. independent-coordinates standardWeights next s (givenSet b);

@@ -30,6 +30,8 @@ laws = record {
       let r = rows-in b (p .not-at 4) in
       same-next refl (gaining-held standardWeights (h refl) (gain (stepColumns b) (givenWidths b) s) (givenStep b) (r .0) (r .1)
       (p .result-width));
+  alone = λ e b next s u. absurd (true≢false (sym e));
+  goes-on = λ e. refl;
   in-order = λ b next s bytes. refl;
   only-three = λ b next s bytes e. refl;
   leaves-coordinates = λ b next s. ranged-coordinates standardWeights (givenStep b) (givenWidths b) s;

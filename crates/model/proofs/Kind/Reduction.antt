@@ -29,6 +29,8 @@ laws = record {
   leaves = λ b next s l h p.
       let c = or-false (ltb maxTerms (termLimit b)) (ltb maxGenerators (generatorLimit b)) (p .not-at 4) in
       same-next refl (reduce-held standardWeights (h refl) (ltb-false _ _ (c .0)) (ltb-false _ _ (c .1)) (p .result-width));
+  alone = λ e b next s u. absurd (true≢false (sym e));
+  goes-on = λ e. refl;
   in-order = λ b next s bytes. refl;
   only-three = λ b next s bytes e. refl;
   leaves-coordinates = λ b next s. reduced-coordinates standardWeights (termLimit b) (generatorLimit b) s;

@@ -24,6 +24,8 @@ laws = record {
   leaves = λ b next s l h p.
       let v = given-valid b _ _ _ _ _ p in
       same-next refl (held next v (All-imp (λ k i. i .1) (file-in l v)));
+  alone = λ e b next s u. refl;
+  goes-on = λ e. absurd (true≢false e);
   in-order = λ b next s bytes. refl;
   only-three = λ b next s bytes e. refl;
   leaves-coordinates = λ b next s. given-dimension b;

@@ -28,6 +28,8 @@ laws = record {
   leaves = λ b next s l h p.
       let r = rows-in b (p .not-at 4) in
       same-next refl (step-held standardWeights (h refl) (givenStep b) (r .0) (r .1) (p .result-width));
+  alone = λ e b next s u. absurd (true≢false (sym e));
+  goes-on = λ e. refl;
   in-order = λ b next s bytes. refl;
   only-three = λ b next s bytes e. refl;
   leaves-coordinates = λ b next s. step-coordinates standardWeights (givenStep b) s;

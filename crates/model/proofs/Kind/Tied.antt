@@ -28,6 +28,8 @@ laws = record {
       let v = given-valid b _ _ _ _ _ p in
       same-next refl (sum-held standardWeights (h refl) (valid-ready v) (given-dimension b ∙ same _ _ (p .not-at 5))
       (file-in l v) (p .not-at 9) (p .result-width));
+  alone = λ e b next s u. absurd (true≢false (sym e));
+  goes-on = λ e. refl;
   in-order = λ b next s bytes. refl;
   only-three = λ b next s bytes e. refl;
   leaves-coordinates = λ b next s. tied-coordinates standardWeights s (givenSet b);

@@ -16,6 +16,8 @@ pub laws : Laws unknown
 unfolding meaning coordinatesAfter markAfter valuesAfter move offsetLimit ruled withValues holdsAt within any
 laws = record {
   leaves = λ b next s l h p. same-next refl (h refl);
+  alone = λ e b next s u. absurd (true≢false (sym e));
+  goes-on = λ e. refl;
   in-order = λ b next s bytes. refl;
   only-three = λ b next s bytes e. refl;
   leaves-coordinates = λ b next s. refl;

@@ -33,5 +33,6 @@ kind = record {
   move = λ b p m x i. x i +ℚ p .offsets m i;
   fresh = λ b. [];
   anew = false;
+  works = false;
   ruled = λ b next s ρ i. ρ i + getD (givenRadii b) i 0;
 }

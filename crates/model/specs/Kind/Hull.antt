@@ -1,6 +1,6 @@
 -- The hull with a second set.
 use mathlib.Core.List.{[], _∷_}
-use mathlib.Core.Bool.{true}
+use mathlib.Core.Bool.{true, false}
 use Prim.Native.Nat.{_+_}
 use Rattle.model.specs.Limits.{standardWeights}
 use Rattle.model.specs.Set.{radius, independentSize}
@@ -23,6 +23,7 @@ kind = record {
   move = λ b p m x i. between (p .blend m) x (bodyPoint p m (givenSet b) (p .values)) i;
   fresh = λ b. (λ p m. p .blend m) ∷ [];
   anew = true;
+  works = false;
   ruled = λ b next s ρ i.
       let u = givenSet b in larger (independentSize s i) (independentSize u i) + halfOf (inexactAt (blended next s u) i);
 }

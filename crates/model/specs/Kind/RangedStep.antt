@@ -24,6 +24,7 @@ kind = record {
   move = λ b p m x i. imageBy (givenStep b) (p .linear m) (p .quadratic m) x i;
   fresh = λ b. [];
   anew = true;
+  works = true;
   ruled = λ b next s ρ i.
       let p = givenStep b in unitsOf (remainder p s i + gain (stepColumns b) (givenWidths b) s i) + halfOf (inexactAt (raw p s) i);
 }

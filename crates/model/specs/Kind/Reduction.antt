@@ -27,5 +27,6 @@ kind = record {
   move = λ b p m x i. x i;
   fresh = λ b. [];
   anew = false;
+  works = false;
   ruled = λ b next s ρ i. ρ i;
 }

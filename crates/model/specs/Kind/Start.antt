@@ -16,5 +16,6 @@ kind = record {
   move = λ b p m x i. bodyPoint p m (givenSet b) (p .values) i;
   fresh = λ b. [];
   anew = true;
+  works = false;
   ruled = λ b next s ρ i. natAbs (at (radiusWords b) i);
 }

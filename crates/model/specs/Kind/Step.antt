@@ -20,5 +20,6 @@ kind = record {
   move = λ b p m x i. image (givenStep b) x i;
   fresh = λ b. [];
   anew = true;
+  works = true;
   ruled = λ b next s ρ i. let p = givenStep b in unitsOf (remainder p s i) + halfOf (inexactAt (raw p s) i);
 }

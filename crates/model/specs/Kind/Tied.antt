@@ -22,5 +22,6 @@ kind = record {
   move = λ b p m x i. x i +ℚ bodyPoint p m (givenSet b) (p .values) i;
   fresh = λ b. [];
   anew = false;
+  works = false;
   ruled = λ b next s ρ i. ρ i + natAbs (at (radiusWords b) i);
 }
