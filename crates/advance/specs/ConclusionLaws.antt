@@ -1,7 +1,7 @@
--- The six places of an answer's ends, and what is answered by an outcome.
+-- The six places of an answer's ends, and what is answered by what a field comes to.
 use mathlib.Core.Path.{_≡_, sym, _∙_, ap}
 use mathlib.Core.List.{List}
-use mathlib.Core.Bool.{Bool, false, cond}
+use mathlib.Core.Bool.{Bool, true, false, cond}
 use Prim.Native.Nat.{ℕ, _+_, _<_}
 use native.Mathlib.Decide.{decLt}
 use native.Mathlib.Omega.{arith}
@@ -14,14 +14,16 @@ use Rattle.model.specs.Set.{at}
 use Rattle.model.specs.Operations.{low, high, box}
 use Rattle.verdicts.specs.Six.{six}
 use Rattle.zonotope.specs.declared.PolyZonotope.{PolyZonotope}
-use Rattle.zonotope.specs.declared.Examined.{Examined}
 use Rattle.zonotope.specs.Record.{view}
-use Rattle.answers.specs.declared.Changed.{Changed}
+use Rattle.fields.specs.declared.Found.{Found}
+use Rattle.fields.specs.declared.Effect.{Effect}
 use Rattle.states.specs.declared.State.{State}
+use Rattle.states.specs.declared.Answer.{Answer}
 use Rattle.states.specs.declared.Outcome.the-variants.{Inside}
+use Rattle.states.specs.Answer.{parts}
 use Rattle.advance.specs.declared.Advanced.{Advanced}
 use Rattle.advance.specs.Totals.{foldedFrom, grown}
-use Rattle.advance.specs.Kinds.{acceptedAs, concludedBy, concluded}
+use Rattle.advance.specs.Concluded.{leftBy, concludedBy, concluded, accepts}
 
 -- the first n are a table's, the others 0
 six-table : (n : ℕ) (f : ℕ → ℤ) → six n f ≡ tab 6 (at (tab n f))
@@ -45,29 +47,39 @@ module _ (s : PolyZonotope) where
   unfolding box view
   box-highs = six-table (s .dimension) (high (view s))
 
--- an answer with these ends, and the state with the set
-pub accepted-is : (st : State) (bytes next : ℕ) (s : PolyZonotope) (anew worked : Bool) {l h : List ℤ} {t : List ℕ}
-    → l ≡ six (s .dimension) (low (view s)) → h ≡ six (s .dimension) (high (view s))
-    → t ≡ grown (st .folded) (foldedFrom anew st) (s .radii .folded)
-    → _≡_ {A = Advanced} (record {
-      answer = record { field = st .count; bytes = bytes; outcome = Inside; sides = s .dimension; low = l; high = h };
-      state = record { set = s; next = next; count = st .count + 1; over = false; folded = t };
-      worked = worked;
-    }) (acceptedAs st bytes next s anew worked)
-accepted-is st bytes next s anew worked e f = go (box-sides s) (e ∙ box-lows s) (f ∙ box-highs s)
-  where
-    go : {m n : ℕ} {k l i j : List ℤ} {t u : List ℕ} → m ≡ n → k ≡ l → i ≡ j → t ≡ u → _≡_ {A = Advanced} (record {
-      answer = record { field = st .count; bytes = bytes; outcome = Inside; sides = m; low = k; high = i };
-      state = record { set = s; next = next; count = st .count + 1; over = false; folded = t };
-      worked = worked;
-    }) (record {
-      answer = record { field = st .count; bytes = bytes; outcome = Inside; sides = n; low = l; high = j };
-      state = record { set = s; next = next; count = st .count + 1; over = false; folded = u };
-      worked = worked;
-    })
-    go a b c d = rw (a, b, c, d)
+-- an answer with these ends
+pub box-answer : (field bytes : ℕ) (s : PolyZonotope) {l h : List ℤ} → l ≡ six (s .dimension) (low (view s))
+    → h ≡ six (s .dimension) (high (view s)) → _≡_ {A = Answer} (record {
+      field = field;
+      bytes = bytes;
+      outcome = Inside;
+      sides = s .dimension;
+      low = l;
+      high = h;
+    }) (parts field bytes Inside (box (view s)))
+box-answer field bytes s e f = λ i. record {
+  field = field;
+  bytes = bytes;
+  outcome = Inside;
+  sides = box-sides s i;
+  low = (e ∙ box-lows s) i;
+  high = (f ∙ box-highs s) i;
+}
 
--- by what a call answered
-pub concluded-as : (st : State) (place bytes next : ℕ) (r : Changed) (anew worked : Bool) {o : Examined} → r .outcome ≡ o
-    → concludedBy o st place bytes next (r .set) anew worked ≡ concluded st place bytes next r anew worked
-concluded-as st place bytes next r anew worked e = ap (λ (o : Examined). concludedBy o st place bytes next (r .set) anew worked) (sym e)
+-- the same answer and state
+pub advanced-by : {a b : Answer} {x y : State} (w : Bool) → a ≡ b → x ≡ y
+    → _≡_ {A = Advanced} (record { answer = a; state = x; worked = w }) (record { answer = b; state = y; worked = w })
+advanced-by w e f = λ i. record { answer = e i; state = f i; worked = w }
+
+-- a state with these totals
+pub left-is : (st : State) (m : Effect) {t : List ℕ} → t ≡ grown (st .folded) (foldedFrom (m .anew) st) (m .set .radii .folded)
+    → _≡_ {A = State} (record { set = m .set; next = m .next; count = st .count + 1; over = false; folded = t }) (leftBy st m)
+left-is st m e = ap (λ (t : List ℕ). record { set = m .set; next = m .next; count = st .count + 1; over = false; folded = t }) e
+
+-- by what a field comes to
+pub concluded-as : (st : State) (place bytes : ℕ) (m : Effect) {f : Found} → m .found ≡ f
+    → concludedBy f st place bytes m ≡ concluded st place bytes m
+concluded-as st place bytes m e = ap (λ (f : Found). concludedBy f st place bytes m) (sym e)
+
+pub accepts-as : (m : Effect) {f : Found} → m .found ≡ f → accepts f ≡ true → accepts (m .found) ≡ true
+accepts-as m e a = ap accepts e ∙ a

@@ -2,20 +2,26 @@
 use mathlib.Core.Path.{_≡_, refl, sym, _∙_, ap, subst}
 use mathlib.Core.List.{List}
 use mathlib.Core.Option.{Option, none, some}
-use mathlib.Core.Bool.{Bool, true, false, cond, _&&_}
+use mathlib.Core.Bool.{Bool, true, false, cond, _&&_, true≢false}
 use Prim.Native.Nat.{ℕ, zero, suc, _+_, _-_, _<_, _≤_}
 use native.Mathlib.Omega.{arith}
-use borrow.Author.Tests.{ltb-false, eqb-true, not-false}
+use borrow.Author.Tests.{ltb-false, eqb-true, eq-eqb, not-false}
 use lib.Dec.{ltb, eqb}
 use lib.ListN.{length, take, drop}
 use Rattle.whole.specs.Tests.{or-left, or-right}
 use Rattle.model.specs.Limits.{lastField, lastTag}
 use Rattle.model.specs.Bytes.{byte}
-use Rattle.model.specs.Field.{refused, skipped}
+use Rattle.model.specs.Field.{unknown, refused, skipped, describe}
 use Rattle.model.specs.Run.{tag, body, kindOf, refusal, meant, acceptedBy, refusedAt, after, outcome, causes, ofBody, firstOf}
 use Rattle.model.specs.Run.{firstField, fieldLength, bodyLength, misplaced, cut}
 use Rattle.zonotope.specs.Answer.{orElse, first-append}
+use Rattle.model.proofs.ByKind.{starts, known-tag, tag-is}
+use Rattle.zonotope.specs.declared.PolyZonotope.{PolyZonotope}
+use Rattle.answers.specs.Accepted.{AcceptedRecord}
+use Rattle.summing.specs.Summable.{Next}
 use Rattle.stepping.specs.Work.{worked}
+use Rattle.fields.specs.declared.Effect.{Effect}
+use Rattle.fields.specs.Effect.{effect, Used}
 use Rattle.states.specs.declared.State.{State}
 use Rattle.states.specs.State.{viewed, left}
 use Rattle.states.specs.Answer.{answerOf}
@@ -25,17 +31,26 @@ use Rattle.advance.specs.declared.Advanced.{Advanced}
 use Rattle.advance.specs.Header.{ofHeader, misplacedTag, header-passed}
 use Rattle.advance.specs.HeaderLaws.{with-tag}
 use Rattle.advance.specs.Running.{Running, Ready}
-use Rattle.advance.specs.Advanced.{isStep, advanced, kindAdvanced}
-use Rattle.advance.specs.Kinds.{skippedAs, refusedAs, advanced-is}
+use Rattle.advance.specs.Advanced.{advanced, kindAdvanced}
+use Rattle.advance.specs.Concluded.{skippedAs, refusedAs, concluded, not-last, effect-leavable, effect-advanced, advanced-is, accepts}
+use Rattle.advance.specs.Totals.{Leavable}
 
 -- ---- by the tag
-pub tag-advanced : (n : ℕ) (place : ℕ) (st : State) (b : List ℕ) (bytes : ℕ) {t : ℕ} → t ≡ n
-    → {a : Advanced} → a ≡ kindAdvanced place st (kindOf n) b bytes → a ≡ kindAdvanced place st (kindOf t) b bytes
-tag-advanced n place st b bytes e p = p ∙ ap (λ t. kindAdvanced place st (kindOf t) b bytes) (sym e)
+pub tag-effect : (n : ℕ) (b : List ℕ) (next : ℕ) (s : PolyZonotope) {t : ℕ} → t ≡ n
+    → {f : Effect} → f ≡ effect (kindOf n) b next s → f ≡ effect (kindOf t) b next s
+tag-effect n b next s e p = p ∙ ap (λ t. effect (kindOf t) b next s) (sym e)
 
--- what a later field finds
-pub later : {st : State} {t : ℕ} → Ready st t → (t ≡ 1 → ⊥) → Running st × (0 < st .count) × (st .count ≤ 4096)
-later r h = (r .running, r .there h, r .few)
+-- a work slice, where the same is said of it
+pub used-as : {A : Type 0} {yes was : Bool} {d : A} {n : ℕ} {before after : List A} → yes ≡ was → Used was d n before after
+    → Used yes d n before after
+used-as e h = record { untouched = λ q. h .untouched (sym e ∙ q); kept = h .kept }
+
+pub not-used : {A : Type 0} (was : Bool) (d : A) (n : ℕ) (xs : List A) → Used was d n xs xs
+not-used was d n xs = record { untouched = λ q. refl; kept = record { place = λ x l. refl } }
+
+-- what a later field finds: a set, and a next identifier that leaves room for twelve
+pub later : {st : State} {t : ℕ} → Ready st t → (t ≡ 1 → ⊥) → AcceptedRecord (st .set) × Next (st .next)
+later {st} r h = (r .running .set (r .there h), record { few = not-last st (r .running) })
 
 -- a hull's tag is left where no other is
 above : {t : ℕ} (n : ℕ) → n ≤ t → (t ≡ n → ⊥) → n + 1 ≤ t
@@ -84,18 +99,34 @@ module _ (st : State) (rest : List ℕ) (header : firstOf (ofHeader (st .count) 
         known = known .1;
       }
 
-  -- what is answered for the part of the input that its body fills
-  pub first-advanced : st .over ≡ false → (place : ℕ) {bytes : ℕ} → bytes ≡ length (firstField rest)
-      → {a : Advanced} → a ≡ kindAdvanced place st (kindOf (byte rest 0)) (take (bytes - 3) (drop 3 rest)) bytes
-      → a ≡ advanced place st (firstField rest)
-  first-advanced on place {bytes} e p =
-      let long = e ∙ first-whole rest there in
-      let n : bytes - 3 ≡ bodyLength rest = omega (arith, long) in
-      p
-      ∙ ap (λ t. kindAdvanced place st (kindOf t) (take (bytes - 3) (drop 3 rest)) bytes) (sym (first-tag rest))
-      ∙ ap (λ b. kindAdvanced place st (kindOf (tag (firstField rest))) b bytes) (ap (λ m. take m (drop 3 rest)) n ∙ sym (first-body rest))
-      ∙ ap (λ m. kindAdvanced place st (kindOf (tag (firstField rest))) (body (firstField rest)) m) e
-      ∙ sym (advanced-is st (firstField rest) on header place)
+  -- what its kind does to the set, from the part of the input that its body fills
+  module _ (run : Running st) {bytes : ℕ} (e : bytes ≡ length (firstField rest)) {f : Effect}
+      (p : f ≡ effect (kindOf (byte rest 0)) (take (bytes - 3) (drop 3 rest)) (st .next) (st .set)) where
+    abbrev part : List ℕ
+    part = take (bytes - 3) (drop 3 rest)
+
+    ready : Ready st (byte rest 0)
+    ready = first-ready run
+
+    -- one that is no start set finds a set
+    finds : starts (kindOf (byte rest 0)) ≡ false → 0 < st .count
+    finds n = ready .there (λ o. true≢false (sym (eq-eqb _ 1 (tag-is (byte rest 0) (ready .known .1) ∙ o)) ∙ n))
+
+    pub first-leavable : accepts (f .found) ≡ true → Leavable st (f .anew) (f .set)
+    first-leavable = effect-leavable st run (kindOf (byte rest 0)) part finds p
+
+    pub first-advanced : st .over ≡ false → (place : ℕ) {a : Advanced} → a ≡ concluded st place bytes f
+        → a ≡ advanced place st (firstField rest)
+    first-advanced on place q =
+        let long = e ∙ first-whole rest there in
+        let n : bytes - 3 ≡ bodyLength rest = omega (arith, long) in
+        q
+        ∙ effect-advanced st run (kindOf (byte rest 0)) part finds
+        (known-tag (byte rest 0) (ready .known .0) (ready .known .1)) place bytes p
+        ∙ ap (λ t. kindAdvanced place st (kindOf t) part bytes) (sym (first-tag rest))
+        ∙ ap (λ b. kindAdvanced place st (kindOf (tag (firstField rest))) b bytes) (ap (λ m. take m (drop 3 rest)) n ∙ sym (first-body rest))
+        ∙ ap (λ m. kindAdvanced place st (kindOf (tag (firstField rest))) (body (firstField rest)) m) e
+        ∙ sym (advanced-is st (firstField rest) on header place)
 
 -- ---- a run that is over
 -- the state, known to be over
@@ -136,10 +167,10 @@ module _ (st : State) (f : List ℕ) (on : st .over ≡ false) {n : ℕ} (header
 
   header-refused : (place : ℕ) → advanced place st f ≡ refusedAs st place (length f) n false
   unfolding advanced taken after outcome viewed left answerOf
-  header-refused place = go (st .over) on (refusal (viewed st) f) refused-by ∙ last (isStep (kindOf (tag f)) && worked (some n)) no
+  header-refused place = go (st .over) on (refusal (viewed st) f) refused-by ∙ last (describe (kindOf (tag f)) .works && worked (some n)) no
     where
-      no : (isStep (kindOf (tag f)) && worked (some n)) ≡ false
-      no = both (isStep (kindOf (tag f))) (header-number (st .count) f header)
+      no : (describe (kindOf (tag f)) .works && worked (some n)) ≡ false
+      no = both (describe (kindOf (tag f)) .works) (header-number (st .count) f header)
         where
           both : (x : Bool) {y : Bool} → y ≡ false → (x && y) ≡ false
           both true e = e
@@ -157,8 +188,8 @@ module _ (st : State) (f : List ℕ) (on : st .over ≡ false) {n : ℕ} (header
           | none ↦ acceptedBy (viewed st) (meant (viewed st) f)
           | some n ↦ refusedAt (viewed st)
         ]));
-        worked = cond over false (isStep (kindOf (tag f)) && worked o);
-      }) (refusedAs st place (length f) n (isStep (kindOf (tag f)) && worked (some n)))
+        worked = cond over false (describe (kindOf (tag f)) .works && worked o);
+      }) (refusedAs st place (length f) n (describe (kindOf (tag f)) .works && worked (some n)))
       go over e o q = rw (e, q)
 
   pub refused-advanced : (place : ℕ) {bytes : ℕ} → bytes ≡ length f → {a : Advanced} → a ≡ refusedAs st place bytes n false

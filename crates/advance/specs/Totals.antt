@@ -8,11 +8,12 @@ use lib.ListN.{length, getD}
 use Rattle.whole.specs.Tab.{tab, getD-tab, tab-cong, tab-getD}
 use Rattle.model.specs.Limits.{maxTotal}
 use Rattle.model.specs.Set.{Zonotope, blank}
-use Rattle.model.specs.Field.{Kind, start, step, disturbance, independent, tied, reduction, check, hull, rangedStep, unknown, meaning}
+use Rattle.model.specs.Field.{Kind, meaning, describe}
 use Rattle.model.specs.Run.{current, withFolds}
 use Rattle.model.proofs.Radii.{blank-at}
 use Rattle.model.proofs.Folds.{foldedBefore, folds-join}
 use Rattle.model.proofs.ByKind.{starts}
+use Rattle.model.proofs.Kind.{laws}
 use Rattle.zonotope.specs.declared.PolyZonotope.{PolyZonotope}
 use Rattle.zonotope.specs.Record.{view, pack}
 use Rattle.zonotope.specs.Counts.{InLimits}
@@ -20,19 +21,6 @@ use Rattle.answers.specs.Accepted.{AcceptedRecord, own-record}
 use Rattle.states.specs.declared.State.{State}
 use Rattle.states.specs.State.{viewed}
 use Rattle.advance.specs.Running.{Running, current-is}
-
--- whether a kind makes the folded parts anew
-abbrev pub makesAnew : Kind → Bool
-makesAnew start = true
-makesAnew step = true
-makesAnew rangedStep = true
-makesAnew hull = true
-makesAnew tied = false
-makesAnew independent = false
-makesAnew disturbance = false
-makesAnew reduction = false
-makesAnew check = false
-makesAnew unknown = false
 
 -- the folded parts from which a field's folds are counted: none where they are made anew, else those of the set before
 abbrev pub foldedFrom : Bool → State → List ℕ
@@ -82,24 +70,20 @@ module _ (st : State) (run : Running st) where
 
   -- folding starts from the same parts
   from-is : (k : Kind) → (starts k ≡ false → 0 < st .count) → (i : ℕ) → i < 6
-      → getD (foldedFrom (makesAnew k) st) i 0 ≡ getD (foldedBefore k (current (viewed st))) i 0
-  from-is start there = from-blank
-  from-is step there = from-blank
-  from-is rangedStep there = from-blank
-  from-is hull there = from-blank
-  from-is tied there = from-set (there refl)
-  from-is independent there = from-set (there refl)
-  from-is disturbance there = from-set (there refl)
-  from-is reduction there = from-set (there refl)
-  from-is check there = from-set (there refl)
-  from-is unknown there = from-set (there refl)
+      → getD (foldedFrom (describe k .anew) st) i 0 ≡ getD (foldedBefore k (current (viewed st))) i 0
+  from-is k there i l = go (describe k .anew) refl
+    where
+      go : (a : Bool) → describe k .anew ≡ a
+          → getD (foldedFrom a st) i 0 ≡ getD (cond a [] (current (viewed st) .radii .folded)) i 0
+      go true e = from-blank i l
+      go false e = from-set (there (laws k .goes-on e)) i l
 
   module _ (k : Kind) (b : List ℕ) (there : starts k ≡ false → 0 < st .count) where
     abbrev result : PolyZonotope
     result = pack (meaning k b (st .next) (current (viewed st)) .result)
 
     result-folded : (i : ℕ) → i < 6 → getD (result .radii .folded) i 0
-        ≡ getD (foldedFrom (makesAnew k) st) i 0 + getD (meaning k b (st .next) (current (viewed st)) .folds) i 0
+        ≡ getD (foldedFrom (describe k .anew) st) i 0 + getD (meaning k b (st .next) (current (viewed st)) .folds) i 0
     unfolding pack
     result-folded i l = omega (
       arith,
@@ -108,10 +92,10 @@ module _ (st : State) (run : Running st) where
       from-is k there i l,
     )
 
-    pub result-rises : Rising (foldedFrom (makesAnew k) st) (result .radii .folded)
+    pub result-rises : Rising (foldedFrom (describe k .anew) st) (result .radii .folded)
     result-rises i l = omega (arith, result-folded i l)
 
-    pub grown-is : grown (st .folded) (foldedFrom (makesAnew k) st) (result .radii .folded)
+    pub grown-is : grown (st .folded) (foldedFrom (describe k .anew) st) (result .radii .folded)
         ≡ withFolds (st .folded) (meaning k b (st .next) (current (viewed st)) .folds)
     unfolding withFolds
     grown-is = tab-cong 6 _ _ (λ i l. omega (arith, result-folded i l))

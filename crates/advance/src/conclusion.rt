@@ -1,33 +1,27 @@
 // What a field answers and leaves, by what was found.
 ghost use mathlib.Core.Path.{_≡_};
+ghost use mathlib.Core.Bool.{true};
 ghost use Prim.Native.Nat.{_≤_};
+ghost use Rattle.model.specs.Operations.{box};
+ghost use Rattle.zonotope.specs.Record.{view};
+ghost use Rattle.states.specs.declared.Outcome.the-variants.{Inside};
+ghost use Rattle.states.specs.Answer.{parts, noBox};
 ghost use Rattle.advance.specs.Totals.{Leavable};
-ghost use Rattle.advance.specs.Kinds.{acceptedAs, refusedAs, skippedAs, checkedAs, judgedAs, concluded};
+ghost use Rattle.advance.specs.Concluded.{leftBy, acceptedAs, refusedAs, skippedAs, concluded, accepts};
 use crate::Advanced;
 use crate::totals;
-use answers::Changed;
+use fields::Effect;
+use fields::Found;
 use states::Answer;
 use states::Outcome;
 use states::Refusal;
 use states::State;
-use verdicts::Verdict;
-use zonotope::Examined;
-use zonotope::PolyZonotope;
 
 // A field given to a run that is over.
 pub fn skipped(st: State, bytes: usize) -> Advanced
     ensures { λ r. ⌜ r ≡ skippedAs st bytes ⌝ }
 {
-    let low = [0i64; 6];
-    let high = [0i64; 6];
-    let answer = Answer {
-        field: st.count,
-        bytes,
-        outcome: Outcome::Skipped,
-        sides: 0,
-        low,
-        high,
-    };
+    let answer = without_box(st.count, bytes, Outcome::Skipped);
     Advanced {
         answer,
         state: st,
@@ -39,17 +33,8 @@ pub fn skipped(st: State, bytes: usize) -> Advanced
 pub fn refused(st: State, place: usize, bytes: usize, number: u8, worked: bool) -> Advanced
     ensures { λ r. ⌜ r ≡ refusedAs st place bytes number worked ⌝ }
 {
-    let low = [0i64; 6];
-    let high = [0i64; 6];
     let refusal = Refusal { number, place };
-    let answer = Answer {
-        field: st.count,
-        bytes,
-        outcome: Outcome::Refused(refusal),
-        sides: 0,
-        low,
-        high,
-    };
+    let answer = without_box(st.count, bytes, Outcome::Refused(refusal));
     let set = st.set;
     let folded = st.folded;
     let state = State {
@@ -66,19 +51,27 @@ pub fn refused(st: State, place: usize, bytes: usize, number: u8, worked: bool) 
     }
 }
 
-// An accepted field that leaves this set answers with its box; its folded parts were made anew or go on from those of the set before.
-pub fn accepted(
-    st: State,
-    bytes: usize,
-    next: u32,
-    set: PolyZonotope,
-    anew: bool,
-    worked: bool,
-) -> Advanced
-    requires { ⌜ Leavable st anew set × (st .count ≤ 4096) ⌝ }
-    ensures { λ r. ⌜ r ≡ acceptedAs st bytes next set anew worked ⌝ }
+// By what the field does to the set.
+pub fn concluded(st: State, place: usize, bytes: usize, m: Effect) -> Advanced
+    requires { ⌜ (accepts (m .found) ≡ true → Leavable st (m .anew) (m .set)) × (st .count ≤ 4096) ⌝ }
+    ensures { λ r. ⌜ r ≡ concluded st place bytes m ⌝ }
 {
-    let folded = totals::after(st, set, anew);
+    let found = m.found;
+    match found {
+        Found::Refused(number) => refused(st, place, bytes, number, m.worked),
+        Found::Inside => inside(st, bytes, m),
+        Found::Safe => judged(st, bytes, Outcome::Safe, m),
+        Found::Unknown => judged(st, bytes, Outcome::Unknown, m),
+    }
+}
+
+// An accepted field that answers with the box of its set.
+fn inside(st: State, bytes: usize, m: Effect) -> Advanced
+    requires { ⌜ Leavable st (m .anew) (m .set) × (st .count ≤ 4096) ⌝ }
+    ensures { λ r. ⌜ r ≡ acceptedAs st bytes Inside (box (view (m .set))) m ⌝ }
+{
+    let state = left(st, m);
+    let set = m.set;
     let ends = verdicts::ends_of(set);
     let low = ends.low;
     let high = ends.high;
@@ -90,81 +83,55 @@ pub fn accepted(
         low,
         high,
     };
-    let state = State {
-        set,
-        next,
-        count: st.count + 1,
-        over: false,
-        folded,
-    };
     Advanced {
         answer,
         state,
-        worked,
+        worked: m.worked,
     }
 }
 
-// By what a call that changes a set answers.
-pub fn changed(
-    st: State,
-    place: usize,
-    bytes: usize,
-    next: u32,
-    r: Changed,
-    anew: bool,
-    worked: bool,
-) -> Advanced
-    requires { ⌜ (r .outcome ≡ Examined.Accepted → Leavable st anew (r .set)) × (st .count ≤ 4096) ⌝ }
-    ensures { λ a. ⌜ a ≡ concluded st place bytes next r anew worked ⌝ }
+// One that answers with a verdict.
+fn judged(st: State, bytes: usize, outcome: Outcome, m: Effect) -> Advanced
+    requires { ⌜ Leavable st (m .anew) (m .set) × (st .count ≤ 4096) ⌝ }
+    ensures { λ r. ⌜ r ≡ acceptedAs st bytes outcome noBox m ⌝ }
 {
-    let o = r.outcome;
-    match o {
-        Examined::Refused(number) => refused(st, place, bytes, number, worked),
-        Examined::Accepted => {
-            let set = r.set;
-            accepted(st, bytes, next, set, anew, worked)
-        }
+    let state = left(st, m);
+    let answer = without_box(st.count, bytes, outcome);
+    Advanced {
+        answer,
+        state,
+        worked: m.worked,
     }
 }
 
-// By a verdict: the set and the totals stay.
-pub fn judged(st: State, place: usize, bytes: usize, v: Verdict) -> Advanced
-    requires { ⌜ st .count ≤ 4096 ⌝ }
-    ensures { λ a. ⌜ a ≡ judgedAs st place bytes v ⌝ }
+// What an accepted field leaves.
+fn left(st: State, m: Effect) -> State
+    requires { ⌜ Leavable st (m .anew) (m .set) × (st .count ≤ 4096) ⌝ }
+    ensures { λ r. ⌜ r ≡ leftBy st m ⌝ }
 {
-    match v {
-        Verdict::Refused(number) => refused(st, place, bytes, number, false),
-        Verdict::Safe => checked(st, bytes, Outcome::Safe),
-        Verdict::Unknown => checked(st, bytes, Outcome::Unknown),
+    let set = m.set;
+    let folded = totals::after(st, set, m.anew);
+    State {
+        set,
+        next: m.next,
+        count: st.count + 1,
+        over: false,
+        folded,
     }
 }
 
-fn checked(st: State, bytes: usize, outcome: Outcome) -> Advanced
-    requires { ⌜ st .count ≤ 4096 ⌝ }
-    ensures { λ r. ⌜ r ≡ checkedAs st bytes outcome ⌝ }
+// An answer without a box.
+fn without_box(field: usize, bytes: usize, outcome: Outcome) -> Answer
+    ensures { λ r. ⌜ r ≡ parts field bytes outcome noBox ⌝ }
 {
     let low = [0i64; 6];
     let high = [0i64; 6];
-    let answer = Answer {
-        field: st.count,
+    Answer {
+        field,
         bytes,
         outcome,
         sides: 0,
         low,
         high,
-    };
-    let set = st.set;
-    let folded = st.folded;
-    let state = State {
-        set,
-        next: st.next,
-        count: st.count + 1,
-        over: false,
-        folded,
-    };
-    Advanced {
-        answer,
-        state,
-        worked: false,
     }
 }

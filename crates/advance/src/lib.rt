@@ -61,5 +61,6 @@ fn whole(
     ensures exponents { λ r. ⌜ Used (r .worked) 0 workExponents (now (e .entry)) (now (e .exit)) ⌝ }
 {
     let t = rest[0];
-    kinds::by_tag(st, place, bytes, t, &rest[3..bytes], w, e)
+    let m = kinds::by_tag(st, t, &rest[3..bytes], w, e);
+    conclusion::concluded(st, place, bytes, m)
 }

@@ -1,7 +1,8 @@
 -- A check: its causes are those of the region that its body gives.
-use mathlib.Core.Path.{_≡_, sym, ap, _∙_}
+use mathlib.Core.Path.{_≡_, refl, sym, ap, ap₂, _∙_}
 use mathlib.Core.List.{List}
-use mathlib.Core.Bool.{true, false, _||_}
+use mathlib.Core.Option.{Option, none, some}
+use mathlib.Core.Bool.{Bool, true, false, _||_}
 use Prim.Native.Nat.{ℕ, _*_, _<_, _≤_}
 use native.Mathlib.Omega.{arith}
 use borrow.Author.Tests.{lt-ltb, le-ltb, eq-eqb, ne-eqb, ltb-false}
@@ -14,7 +15,7 @@ use Rattle.model.specs.Set.{Zonotope}
 use Rattle.model.specs.Valid.{tooWide}
 use Rattle.model.specs.Operations.{safe}
 use Rattle.model.specs.Body.{dimension, halfspaceCount, givenHalfspaces}
-use Rattle.model.specs.Field.{check, meaning, badDimension}
+use Rattle.model.specs.Field.{check, verdict, meaning, badDimension}
 use Rattle.model.specs.Run.{firstOf}
 use Rattle.model.specs.Library.{ofRegion}
 use Rattle.bodies.specs.Fields.{regionCountsOut, regionLength, RegionBody, givenNormals, givenBounds}
@@ -23,7 +24,12 @@ use Rattle.verdicts.specs.declared.Verdict.{Verdict}
 use Rattle.verdicts.specs.declared.Verdict.the-variants.{Refused}
 use Rattle.verdicts.specs.Region.{halfspaces}
 use Rattle.verdicts.specs.Judged.{judged, few}
+use Rattle.zonotope.specs.declared.PolyZonotope.{PolyZonotope}
+use Rattle.zonotope.specs.Record.{view, pack}
+use Rattle.answers.specs.Accepted.{AcceptedRecord, own-record}
+use Rattle.fields.specs.declared.Effect.{Effect}
 use Rattle.fields.specs.Refusal.{bodyRefusal}
+use Rattle.fields.specs.Effect.{foundOf, effectBy, effect, leftAs, judgedBy}
 use Rattle.fields.specs.Entries.{zeros, zeros-length}
 
 -- a body with counts in limits and as long as they say
@@ -91,3 +97,20 @@ module _ (b : List ℕ) (h : WholeRegion b) {n count : ℕ} (e₁ : n ≡ dimens
     normals-long = zeros-length (pos 0) (count * n) 48 (small .0) ∙ rw (e₁, e₂);
     bounds-long = zeros-length (pos 0) count 8 (small .1) ∙ e₂;
   }
+
+-- ---- the field: the set stays, and its record is the record of what it means
+pub check-effect : (b : List ℕ) (next : ℕ) (s : PolyZonotope) → AcceptedRecord s → {v : Verdict} → v ≡ checked b (view s)
+    → {f : Effect} → f ≡ judgedBy v s next → f ≡ effect check b next s
+unfolding effect meaning
+check-effect b next s a e p =
+    p ∙ ap (λ (v : Verdict). judgedBy v s next) e ∙ go (bodyRefusal check b 0 (view s)) (safe (givenHalfspaces b) (view s)) refl
+  where
+    stays : {y : Bool} → safe (givenHalfspaces b) (view s) ≡ y
+        → leftAs s next (foundOf (verdict y)) ≡ leftAs (pack (view s)) next (foundOf (verdict (safe (givenHalfspaces b) (view s))))
+    stays e = ap₂ (λ (x : PolyZonotope) (y : Bool). leftAs x next (foundOf (verdict y))) (sym (own-record s a)) (sym e)
+
+    go : (o : Option ℕ) (y : Bool) → safe (givenHalfspaces b) (view s) ≡ y
+        → judgedBy (judged o y) s next ≡ effectBy o check (meaning check b next (view s)) next s
+    go none true e = stays e
+    go none false e = stays e
+    go (some n) y e = refl

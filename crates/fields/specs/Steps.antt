@@ -1,8 +1,8 @@
 -- Steps and ranged steps: their causes in parts, and what they leave in their work slices.
 use mathlib.Core.Path.{_≡_, refl, sym, ap, _∙_}
 use mathlib.Core.List.{List, [], _∷_, _++_}
-use mathlib.Core.Option.{Option, none}
-use mathlib.Core.Bool.{Bool, true, false, _||_, true≢false}
+use mathlib.Core.Option.{Option, none, some}
+use mathlib.Core.Bool.{Bool, true, false, _&&_, _||_, true≢false}
 use Prim.Native.Nat.{ℕ}
 use borrow.Author.Tests.{eq-eqb, le-ltb}
 use lib.Dec.{eqb}
@@ -17,7 +17,7 @@ use Rattle.model.specs.Step.{Step}
 use Rattle.model.specs.Ranged as Ranged
 use Rattle.model.specs.Ranged.{Widths}
 use Rattle.model.specs.Body.{stepColumns, stepLength, givenStep, rangedLength, givenWidths}
-use Rattle.model.specs.Field.{Kind, step, rangedStep, meaning, ofStepBody, differs, badStepRange, negativeWidth, badWidthRange}
+use Rattle.model.specs.Field.{Kind, step, rangedStep, Meaning, meaning, describe, ofStepBody, differs, badStepRange, negativeWidth, badWidthRange}
 use Rattle.model.specs.Run.{Cause, _if_, firstOf, ofBody}
 use Rattle.model.specs.Library.{badStepLengths, badWidthLengths, ofStep, ofRangedStep}
 use Rattle.zonotope.specs.declared.PolyZonotope.{PolyZonotope}
@@ -35,6 +35,8 @@ use Rattle.stepping.specs.Arguments.{ranged-in}
 use Rattle.stepping.specs.Work.{workNumbers, workExponents, worked, result-worked}
 use Rattle.bodies.specs.Fields.{stepCountsOut}
 use Rattle.fields.specs.Refusal.{bodyRefusal, resultOf}
+use Rattle.fields.specs.declared.Effect.{Effect}
+use Rattle.fields.specs.Effect.{effectBy, effect, Used, changedBy, change-effect}
 use Rattle.fields.specs.Layout.{layout, LaidOut, in-parts}
 
 -- ---- definitions
@@ -246,3 +248,29 @@ module _ (p : Step) (d : Widths) (negative : Bool) (dimension : ℕ) where
   words-in e =
       ranged-in p d dimension
       (neither (firstOf (ofRangedStep p d dimension)) (ofSigns negative) (sym words-parts ∙ e) .0)
+
+-- ---- the fields
+module _ (b : List ℕ) (next : ℕ) (s : PolyZonotope) where
+  pub step-effect : (ranged : Bool) {r : Changed}
+      → r ≡ answered (bodyRefusal (stepKind ranged) b 0 (view s)) s (resultOf (stepKind ranged) b 0 (view s))
+      → {f : Effect} → f ≡ changedBy (r .outcome) s next next (r .set) true true → f ≡ effect (stepKind ranged) b next s
+  unfolding meaning
+  step-effect false from p = change-effect step b next s refl s from refl p
+  step-effect true from p = change-effect rangedStep b next s refl s from refl p
+
+  -- it was worked out where it says so
+  worked-by : (k : Kind) → describe k .works ≡ true → (o : Option ℕ) (m : Meaning) → effectBy o k m next s .worked ≡ worked o
+  worked-by k e none m = e
+  worked-by k e (some n) m = ap (_&& eqb n 10) e
+
+  worked-is : (ranged : Bool) → effect (stepKind ranged) b next s .worked ≡ worked (bodyRefusal (stepKind ranged) b 0 (view s))
+  unfolding effect meaning
+  worked-is false = worked-by step refl (bodyRefusal step b 0 (view s)) (meaning step b next (view s))
+  worked-is true = worked-by rangedStep refl (bodyRefusal rangedStep b 0 (view s)) (meaning rangedStep b next (view s))
+
+  pub step-used : (ranged : Bool) {f : Effect} → f ≡ effect (stepKind ranged) b next s → {A : Type 0} {d : A} {n : ℕ}
+      {before after : List A} → Worked d (bodyRefusal (stepKind ranged) b 0 (view s)) n before after → Used (f .worked) d n before after
+  step-used ranged e h = record {
+    untouched = λ q. h .untouched (sym (ap (λ (f : Effect). f .worked) e ∙ worked-is ranged) ∙ q);
+    kept = h .kept;
+  }

@@ -9,12 +9,24 @@ ghost use Rattle.answers.specs.Accepted.{AcceptedRecord};
 ghost use Rattle.bodies.specs.Fields.{RegionBody};
 ghost use Rattle.verdicts.specs.Judged.{judged};
 ghost use Rattle.fields.specs.Refusal.{bodyRefusal};
+ghost use Rattle.fields.specs.Effect.{effect};
 ghost use Rattle.fields.specs.Checks.{WholeRegion, checked};
+use crate::Effect;
+use crate::effects;
 use verdicts::Verdict;
 use zonotope::PolyZonotope;
 
+// What it does: a verdict; the set and the next identifier stay.
+pub fn effect(first: PolyZonotope, next: u32, body: &[u8]) -> Effect
+    requires { ⌜ AcceptedRecord first ⌝ }
+    ensures { λ r. ⌜ r ≡ effect check (now (body .entry)) next first ⌝ }
+{
+    let v = check(first, body);
+    effects::of_verdict(first, next, v)
+}
+
 // Whether the set avoids the body's region, as far as the lower ends tell.
-pub fn check(s: PolyZonotope, body: &[u8]) -> Verdict
+fn check(s: PolyZonotope, body: &[u8]) -> Verdict
     requires { ⌜ AcceptedRecord s ⌝ }
     ensures { λ r. ⌜ r ≡ judged (bodyRefusal check (now (body .entry)) 0 (view s)) (safe (givenHalfspaces (now (body .entry))) (view s)) ⌝ }
 {

@@ -12,13 +12,25 @@ ghost use Rattle.answers.specs.Accepted.{AcceptedRecord};
 ghost use Rattle.summing.specs.Disturb.{Disturbable};
 ghost use Rattle.bodies.specs.Fields.{radiiLength};
 ghost use Rattle.fields.specs.Refusal.{bodyRefusal, resultOf};
+ghost use Rattle.fields.specs.Effect.{effect};
 ghost use Rattle.fields.specs.Disturbances.{radiiLayout, RadiiLaid, ofDisturbance};
+use crate::Effect;
+use crate::effects;
 use answers::Changed;
 use zonotope::Examined;
 use zonotope::PolyZonotope;
 
+// What it does; the next identifier stays.
+pub fn effect(first: PolyZonotope, next: u32, body: &[u8]) -> Effect
+    requires { ⌜ AcceptedRecord first ⌝ }
+    ensures { λ r. ⌜ r ≡ effect disturbance (now (body .entry)) next first ⌝ }
+{
+    let r = disturb(first, body);
+    effects::of_change(first, next, next, r, false, false)
+}
+
 // The set with the radii added.
-pub fn disturb(s: PolyZonotope, body: &[u8]) -> Changed
+fn disturb(s: PolyZonotope, body: &[u8]) -> Changed
     requires { ⌜ AcceptedRecord s ⌝ }
     ensures { λ r. ⌜ r ≡ answered (bodyRefusal disturbance (now (body .entry)) 0 (view s)) s
         (resultOf disturbance (now (body .entry)) 0 (view s)) ⌝ }

@@ -7,13 +7,25 @@ ghost use Rattle.zonotope.specs.Answer.{examined};
 ghost use Rattle.answers.specs.Answer.{answered};
 ghost use Rattle.answers.specs.Accepted.{AcceptedRecord};
 ghost use Rattle.fields.specs.Refusal.{bodyRefusal, resultOf};
+ghost use Rattle.fields.specs.Effect.{effect};
 ghost use Rattle.fields.specs.Reductions.{limitsLayout};
+use crate::Effect;
+use crate::effects;
 use answers::Changed;
 use zonotope::Examined;
 use zonotope::PolyZonotope;
 
+// What it does; the next identifier stays.
+pub fn effect(first: PolyZonotope, next: u32, body: &[u8]) -> Effect
+    requires { ⌜ AcceptedRecord first ⌝ }
+    ensures { λ r. ⌜ r ≡ effect reduction (now (body .entry)) next first ⌝ }
+{
+    let r = reduce(first, body);
+    effects::of_change(first, next, next, r, false, false)
+}
+
 // The reduced set.
-pub fn reduce(s: PolyZonotope, body: &[u8]) -> Changed
+fn reduce(s: PolyZonotope, body: &[u8]) -> Changed
     requires { ⌜ AcceptedRecord s ⌝ }
     ensures { λ r. ⌜ r ≡ answered (bodyRefusal reduction (now (body .entry)) 0 (view s)) s
         (resultOf reduction (now (body .entry)) 0 (view s)) ⌝ }

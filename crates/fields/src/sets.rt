@@ -1,88 +1,18 @@
-// Fields whose body is a set: the start set, the sums and the hull.
+// Bodies that are a set: of a start set, of the sums and of the hull.
 ghost use mathlib.Core.Path.{_≡_};
 ghost use Rattle.model.specs.Body.{givenSet};
-ghost use Rattle.model.specs.Field.{start, tied, independent, hull};
 ghost use Rattle.model.specs.Run.{noSet, firstOf};
-ghost use Rattle.zonotope.specs.Record.{view, pack};
+ghost use Rattle.zonotope.specs.Record.{pack};
 ghost use Rattle.zonotope.specs.Answer.{examined};
 ghost use Rattle.answers.specs.Answer.{answered};
-ghost use Rattle.answers.specs.Accepted.{AcceptedRecord};
-ghost use Rattle.summing.specs.Summable.{Next};
 ghost use Rattle.bodies.specs.Set.{SetBody};
-ghost use Rattle.fields.specs.Refusal.{bodyRefusal, resultOf};
 ghost use Rattle.fields.specs.Sets.{ofLayout, ofContents, ofSummand};
 use answers::Changed;
 use zonotope::Examined;
 use zonotope::PolyZonotope;
 
-// A start set: the set itself, or a refusal with the record of no set.
-pub fn start(body: &[u8]) -> Changed
-    ensures { λ r. ⌜ r ≡ answered (bodyRefusal start (now (body .entry)) 0 noSet) (pack noSet) (resultOf start (now (body .entry)) 0 noSet) ⌝ }
-{
-    let o = of_layout(body);
-    if answers::is_refused(o) {
-        let set = zonotope::empty();
-        return Changed { outcome: o, set };
-    }
-    read(body)
-}
-
-// A tied sum with the body's set.
-pub fn tied(first: PolyZonotope, body: &[u8]) -> Changed
-    requires { ⌜ AcceptedRecord first ⌝ }
-    ensures { λ r. ⌜ r ≡ answered (bodyRefusal tied (now (body .entry)) 0 (view first)) first
-        (resultOf tied (now (body .entry)) 0 (view first)) ⌝ }
-{
-    let g = summand(first.dimension, body);
-    let o = g.outcome;
-    if answers::is_refused(o) {
-        return Changed {
-            outcome: o,
-            set: first,
-        };
-    }
-    let second = g.set;
-    summing::sum::tied(first, second)
-}
-
-// An independent sum with the body's set, whose factors are numbered from `next` on.
-pub fn independent(first: PolyZonotope, next: u32, body: &[u8]) -> Changed
-    requires { ⌜ AcceptedRecord first × Next next ⌝ }
-    ensures { λ r. ⌜ r ≡ answered (bodyRefusal independent (now (body .entry)) next (view first)) first
-        (resultOf independent (now (body .entry)) next (view first)) ⌝ }
-{
-    let g = summand(first.dimension, body);
-    let o = g.outcome;
-    if answers::is_refused(o) {
-        return Changed {
-            outcome: o,
-            set: first,
-        };
-    }
-    let second = g.set;
-    summing::sum::independent(first, second, next)
-}
-
-// The hull with the body's set, blended by the factor `next`.
-pub fn hull(first: PolyZonotope, next: u32, body: &[u8]) -> Changed
-    requires { ⌜ AcceptedRecord first ⌝ }
-    ensures { λ r. ⌜ r ≡ answered (bodyRefusal hull (now (body .entry)) next (view first)) first
-        (resultOf hull (now (body .entry)) next (view first)) ⌝ }
-{
-    let g = summand(first.dimension, body);
-    let o = g.outcome;
-    if answers::is_refused(o) {
-        return Changed {
-            outcome: o,
-            set: first,
-        };
-    }
-    let second = g.set;
-    hulling::hulled(first, second, next)
-}
-
 // The set in the body of a sum or a hull, for n coordinates: 3, 4, 3, 5, 6, 7, 8.
-fn summand(n: usize, body: &[u8]) -> Changed
+pub fn summand(n: usize, body: &[u8]) -> Changed
     ensures { λ r. ⌜ r ≡ answered (firstOf (ofSummand n (now (body .entry)))) (pack noSet) (givenSet (now (body .entry))) ⌝ }
 {
     let o = of_layout(body);
@@ -101,7 +31,7 @@ fn summand(n: usize, body: &[u8]) -> Changed
 }
 
 // The set that a body of the right length gives: 6, 7, 8.
-fn read(body: &[u8]) -> Changed
+pub fn read(body: &[u8]) -> Changed
     requires { ⌜ SetBody (now body) ⌝ }
     ensures { λ r. ⌜ r ≡ answered (firstOf (ofContents (now (body .entry)))) (pack noSet) (givenSet (now (body .entry))) ⌝ }
 {
@@ -118,7 +48,7 @@ fn read(body: &[u8]) -> Changed
 }
 
 // Whether the body is as long as the counts of its set say: 3, 4, 3.
-fn of_layout(body: &[u8]) -> Examined
+pub fn of_layout(body: &[u8]) -> Examined
     ensures { λ r. ⌜ r ≡ examined (firstOf (ofLayout (now (body .entry)))) ⌝ }
 {
     if body.len() < 4 {

@@ -19,17 +19,38 @@ ghost use Rattle.answers.specs.Accepted.{AcceptedRecord};
 ghost use Rattle.stepping.specs.Work.{workNumbers, workExponents};
 ghost use Rattle.bodies.specs.Fields.{StepBody, WidthsBody};
 ghost use Rattle.fields.specs.Refusal.{bodyRefusal, resultOf};
+ghost use Rattle.fields.specs.Effect.{effect, Used};
 ghost use Rattle.fields.specs.Steps.{Worked, stepKind, lengthOf, layoutOf, BodyLaid, SteppedBy, RangedBy};
 ghost use Rattle.fields.specs.Steps.{ofRangedWords, GivenStepped};
 ghost use Rattle.fields.specs.Entries.{WidthsRoom};
+use crate::Effect;
+use crate::effects;
 use answers::Changed;
 use zonotope::Examined;
 use zonotope::PolyZonotope;
 
-// The set's image under the step, or the ranged step, of the body. w and e are work space: their first 5,160 and 10,320 places hold anything
+// What a step, or a ranged step, does; the next identifier stays. w and e are work space: their first 5,160 and 10,320 places hold anything
 // afterwards where the step was worked out, also where its result is refused with 10. Else they are as they were, and so are all later
 // places.
-pub fn step(s: PolyZonotope, ranged: bool, body: &[u8], w: &mut [i64], e: &mut [u8]) -> Changed
+pub fn effect(
+    first: PolyZonotope,
+    next: u32,
+    ranged: bool,
+    body: &[u8],
+    w: &mut [i64],
+    e: &mut [u8],
+) -> Effect
+    requires { ⌜ AcceptedRecord first × (workNumbers ≤ length (now w)) × (workExponents ≤ length (now e)) ⌝ }
+    ensures { λ r. ⌜ r ≡ effect (stepKind ranged) (now (body .entry)) next first ⌝ }
+    ensures numbers { λ r. ⌜ Used (r .worked) (pos 0) workNumbers (now (w .entry)) (now (w .exit)) ⌝ }
+    ensures exponents { λ r. ⌜ Used (r .worked) 0 workExponents (now (e .entry)) (now (e .exit)) ⌝ }
+{
+    let r = step(first, ranged, body, w, e);
+    effects::of_change(first, next, next, r, true, true)
+}
+
+// The set's image under the step, or the ranged step, of the body.
+fn step(s: PolyZonotope, ranged: bool, body: &[u8], w: &mut [i64], e: &mut [u8]) -> Changed
     requires { ⌜ AcceptedRecord s × (workNumbers ≤ length (now w)) × (workExponents ≤ length (now e)) ⌝ }
     ensures { λ r. ⌜ r ≡ answered (bodyRefusal (stepKind ranged) (now (body .entry)) 0 (view s)) s
         (resultOf (stepKind ranged) (now (body .entry)) 0 (view s)) ⌝ }

@@ -46,7 +46,7 @@ tag-of t h = go (ltb lastTag t) refl
         absurd (omega (arith, h, none))
     go false e = tag-is t (ltb-false lastTag t e)
 
-known-tag : (t : ℕ) → 1 ≤ t → t ≤ lastTag → kindOf t ≡ unknown → ⊥
+pub known-tag : (t : ℕ) → 1 ≤ t → t ≤ lastTag → kindOf t ≡ unknown → ⊥
 known-tag t l h e = omega (arith, l, tag-is t h, ap (λ k. describe k .tag) e)
 
 pub known : (count : ℕ) (f : List ℕ) → misplaced count f ≡ false → cut f ≡ false → kindOf (tag f) ≡ unknown → ⊥

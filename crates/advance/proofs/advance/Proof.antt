@@ -4,8 +4,7 @@ use lib.IntN.{pos}
 use Rattle.model.specs.Run.{firstField}
 use Rattle.zonotope.specs.Answer.{accepted, refused-with}
 use Rattle.stepping.specs.Work.{workNumbers, workExponents}
-use Rattle.advance.specs.CallLaws.{not-used}
-use Rattle.advance.specs.FieldLaws.{skipped-advanced, refused-advanced}
+use Rattle.advance.specs.FieldLaws.{not-used, skipped-advanced, refused-advanced}
 use borrow.Author.Needs.{needs}
 use Rattle.advance.proofs.advance.Statement.{statement}
 use Rattle.advance.proofs.advance.Tie as tie

@@ -1,8 +1,11 @@
 -- `whole` meets its contract.
+use mathlib.Core.Path.{_≡_, ap, _∙_}
 use Prim.Native.Nat.{_≤_}
 use native.Mathlib.Omega.{arith}
 use lib.ListN.{length}
-use Rattle.advance.specs.FieldLaws.{first-there, first-ready, first-advanced}
+use Rattle.advance.specs.declared.Advanced.{Advanced}
+use Rattle.advance.specs.Concluded.{concluded-worked}
+use Rattle.advance.specs.FieldLaws.{used-as, first-there, first-ready, first-leavable, first-advanced}
 use borrow.Author.Needs.{needs}
 use Rattle.advance.proofs.whole.Statement.{statement}
 use Rattle.advance.proofs.whole.Tie as tie
@@ -28,6 +31,13 @@ by-tag-requires c κs =
     let s = c .before .before .before .before .before .before in
     (first-ready (s .args .st) (s .args .rest .now) (s .pre .2) (s .pre .0), s .pre .4, s .pre .5)
 
+concluded-requires : tie.Need-concluded-requires
+concluded-requires c κs =
+    let t = c .before .before .before in let s = t .before .before .before .before .before .before .before in let a = s .args in (
+      first-leavable (a .st) (a .rest .now) (s .pre .2) (s .pre .0) (s .pre .3) (t .by-tag .ensures .0),
+      first-ready (a .st) (a .rest .now) (s .pre .2) (s .pre .0) .few,
+    )
+
 same-length : tie.Need-same-length
 same-length c = search needs
 
@@ -36,8 +46,13 @@ same-length-2 c = search needs
 
 returns : tie.Need-returns
 returns c =
-    let t = c .before .before .before in let s = t .before .before .before .before .before .before .before in let a = s .args in
-    (first-advanced (a .st) (a .rest .now) (s .pre .2) (s .pre .1) (a .place) (s .pre .3) (t .by-tag .ensures .0), t .by-tag .ensures .1)
+    let t = c .before .before .before .before in let s = t .before .before .before .before .before .before .before in let a = s .args in
+    let said : c .concluded .result .worked ≡ t .by-tag .result .worked =
+    ap (λ (x : Advanced). x .worked) (c .concluded .ensures) ∙ concluded-worked (a .st) (a .place) (a .bytes) (t .by-tag .result) in (
+      first-advanced (a .st) (a .rest .now) (s .pre .2) (s .pre .0) (s .pre .3) (t .by-tag .ensures .0) (s .pre .1) (a .place)
+          (c .concluded .ensures),
+      (used-as said (t .by-tag .ensures .1 .0), used-as said (t .by-tag .ensures .1 .1)),
+    )
 
 pub whole-spec : {M : Type 1} → statement M
 whole-spec =
@@ -48,6 +63,7 @@ whole-spec =
     part-by-tag-start
     part-by-tag-end
     by-tag-requires
+    concluded-requires
     same-length
     same-length-2
     returns)
