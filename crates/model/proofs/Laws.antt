@@ -10,7 +10,7 @@ use lib.ListN.{length, getD}
 use lib.IntN.{pos}
 use borrow.Author.Tests.{lt-ltb, eq-eqb, ne-eqb}
 use Rattle.whole.specs.Tab.{tab, any, length-tab}
-use Rattle.rational.specs.Rational.{ℚ, ι, 1ℚ}
+use Rattle.rational.specs.Rational.{ℚ, _+ℚ_, ι, 1ℚ}
 use Rattle.rational.specs.Bounds.{Within}
 use Rattle.rational.specs.Sum as Sum
 use Rattle.rational.specs.Sum.{All, All-imp, more}
@@ -22,7 +22,7 @@ use Rattle.model.specs.Body.{dimension, stepRows, stepColumns, givenStep
 use Rattle.model.specs.Field.{Kind, check, rangedStep, unknown, describe, Outcome, inside, verdict, refused, skipped}
 use Rattle.model.specs.Field.{Meaning, meaning, badDimension}
 use Rattle.model.specs.Run.{Cause, ofBody}
-use Rattle.model.specs.Points.{Vector, Point, InRange}
+use Rattle.model.specs.Points.{Vector, valueAt, Point, InRange}
 use Rattle.model.specs.Motion.{Picks, InWidths, bodyPoint, offsetLimit, move, withValues, freshValues, valuesAfter, markAfter, Unsafe}
 use Rattle.model.specs.Origin.{ruled}
 use Rattle.model.specs.Promised.{coordinatesAfter}
@@ -106,6 +106,10 @@ body-point p m s α numbers offsets = record {
   in-range = all-tab (length (s .generators)) (p .numbers m) (λ j h. numbers j);
   near = λ i h. record { off = p .offsets m i; small = offsets i; is = refl };
 }
+
+-- and the same where the picks are
+pub body-same : {p q : Picks} {m : ℕ} → SameAt p q m → (s : Zonotope) {α β : Vector} → α ≡ β → bodyPoint p m s α ≡ bodyPoint q m s β
+body-same h s e = λ j i. valueAt s (e j) (tab (length (s .generators)) (h .numbers j)) i +ℚ h .offsets j i
 
 -- ---- values of identifiers
 -- the values picked for the file's identifiers, and the current ones

@@ -1,5 +1,5 @@
 -- The laws of: the hull with a second set.
-use mathlib.Core.Path.{_≡_, refl, sym, _∙_, subst}
+use mathlib.Core.Path.{_≡_, refl, sym, _∙_, subst, ap₂}
 use mathlib.Core.Bool.{true≢false}
 use native.Mathlib.Omega.{arith}
 use borrow.Author.Tests.{eq-eqb}
@@ -22,7 +22,7 @@ use Rattle.model.proofs.HullPoint.{hull-point}
 use Rattle.model.proofs.Folding.{finished-at, rounded-anew}
 use Rattle.model.proofs.RadiusRules.{blended-radius, settled-radius, finished-radius, finished-in, rounded-in, blended-in}
 use Rattle.whole.specs.Tab.{any}
-use Rattle.model.proofs.Laws.{Laws, within, file-in, with-box, no-verdict, body-point, file-agrees, agree-below, rising, old-value, values-range}
+use Rattle.model.proofs.Laws.{Laws, within, file-in, with-box, no-verdict, body-point, body-same, file-agrees, agree-below, rising, old-value, values-range}
 use Rattle.model.specs.Hull as Hull
 use Rattle.rational.specs.Sum as Sum
 
@@ -48,7 +48,7 @@ laws = record {
   next-counted = λ b next s. refl;
   fresh-range = λ b p m o c. more c Sum.none;
   same-fresh = λ h b. rw (h .blend);
-  same-move = λ h b x i. rw (h .values, h .numbers, h .offsets, h .blend);
+  same-move = λ h b x i. ap₂ (λ (c : ℚ) (y : Vector). between c x y i) (h .blend) (body-same h (givenSet b) (h .values));
   keeps = λ b p m next s {α} {x} l w agree i h q.
       let v = given-valid b _ _ _ _ _ q in
       let γ : Vector = withValues (freshValues hull b p m) next α in

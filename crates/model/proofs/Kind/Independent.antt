@@ -5,7 +5,7 @@ use mathlib.Core.Bool.{true≢false}
 use Prim.Native.Nat.{ℕ, _+_}
 use native.Mathlib.Omega.{arith}
 use lib.ListN.{length-map}
-use Rattle.rational.specs.Rational.{ℚ, 1ℚ}
+use Rattle.rational.specs.Rational.{ℚ, 1ℚ, _+ℚ_}
 use Rattle.rational.specs.Bounds.{Within}
 use Rattle.rational.specs.Sum.{All, All-imp, All-map, more}
 use Rattle.model.specs.Limits.{standardWeights}
@@ -24,7 +24,7 @@ use Rattle.model.proofs.SumPoints.{independent-point}
 use Rattle.model.proofs.Folding.{finished-at, sum-goes-on, given-none}
 use Rattle.model.proofs.RadiusRules.{given-radius, renumbered-radius, joined-radius, finished-radius, finished-in, joined-in}
 use Rattle.whole.specs.Tab.{any}
-use Rattle.model.proofs.Laws.{Laws, SameAt, within, with-box, no-verdict, body-point, rising, old-value, new-value, values-range}
+use Rattle.model.proofs.Laws.{Laws, SameAt, within, with-box, no-verdict, body-point, body-same, rising, old-value, new-value, values-range}
 use Rattle.rational.specs.Sum as Sum
 
 abbrev own : ℕ → Picks → ℕ → ℚ
@@ -67,7 +67,7 @@ laws = record {
   next-counted = λ b next s. ap (next +_) (sym (length-map (givenSet b .identifiers) own ∙ given-factors b));
   fresh-range = λ b p m o c. own-range b p m o;
   same-fresh = λ h b. own-same (givenSet b .identifiers) h;
-  same-move = λ h b x i. rw (h .own, h .numbers, h .offsets);
+  same-move = λ h b x i. ap (λ (y : Vector). x i +ℚ y i) (body-same h (givenSet b) (h .own));
   keeps = λ b p m next s {α} {x} l w agree i h q.
       let cs = freshValues independent b p m in
       independent-point standardWeights next (values-range cs next (own-range b p m (i .own)) w) (rising (h refl .0 .ordered))

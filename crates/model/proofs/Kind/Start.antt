@@ -1,11 +1,12 @@
 -- The laws of: the start set.
-use mathlib.Core.Path.{refl, sym}
+use mathlib.Core.Path.{refl, sym, ap}
 use mathlib.Core.Bool.{true≢false}
 use native.Mathlib.Nat.{add-zero}
 use native.Mathlib.Omega.{arith}
 use Rattle.rational.specs.Sum.{All-imp}
 use Rattle.model.specs.Body.{givenSet}
 use Rattle.model.specs.Field.{start, meaning}
+use Rattle.model.specs.Points.{Vector}
 use Rattle.model.specs.Motion.{offsetLimit, move, withValues, valuesAfter, markAfter}
 use Rattle.model.specs.Origin.{ruled}
 use Rattle.model.specs.Promised.{coordinatesAfter}
@@ -15,7 +16,7 @@ use Rattle.model.proofs.Values.{same-values}
 use Rattle.model.proofs.Folding.{given-none}
 use Rattle.model.proofs.RadiusRules.{given-radius}
 use Rattle.whole.specs.Tab.{any}
-use Rattle.model.proofs.Laws.{Laws, within, same-next, file-in, with-box, no-verdict, body-point, file-agrees}
+use Rattle.model.proofs.Laws.{Laws, within, same-next, file-in, with-box, no-verdict, body-point, body-same, file-agrees}
 use Rattle.rational.specs.Sum as Sum
 
 pub laws : Laws start
@@ -35,7 +36,7 @@ laws = record {
   next-counted = λ b next s. sym (add-zero next);
   fresh-range = λ b p m o c. Sum.none;
   same-fresh = λ h b. refl;
-  same-move = λ h b x i. rw (h .values, h .numbers, h .offsets);
+  same-move = λ h b x i. ap (λ (y : Vector). y i) (body-same h (givenSet b) (h .values));
   keeps = λ b p m next s {α} {x} l w agree i h q.
       let v = given-valid b _ _ _ _ _ q in
       same-values (file-agrees p agree v) .0 (body-point p m (givenSet b) (p .values) (i .numbers) (i .offsets));

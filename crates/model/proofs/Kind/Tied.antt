@@ -1,5 +1,5 @@
 -- The laws of: the sum with a set that shares its identifiers.
-use mathlib.Core.Path.{refl, sym, _∙_}
+use mathlib.Core.Path.{refl, sym, _∙_, ap}
 use mathlib.Core.Bool.{true≢false}
 use native.Mathlib.Nat.{add-zero}
 use native.Mathlib.Omega.{arith}
@@ -7,6 +7,8 @@ use Rattle.model.specs.Limits.{standardWeights}
 use Rattle.model.specs.Operations.{joined, tiedSum}
 use Rattle.model.specs.Body.{givenSet}
 use Rattle.model.specs.Field.{tied, meaning}
+use Rattle.model.specs.Points.{Vector}
+use Rattle.rational.specs.Rational.{_+ℚ_}
 use Rattle.model.specs.Motion.{offsetLimit, move, withValues, valuesAfter, markAfter}
 use Rattle.model.specs.Origin.{ruled}
 use Rattle.model.specs.Promised.{coordinatesAfter}
@@ -18,7 +20,7 @@ use Rattle.model.proofs.SumPoints.{tied-point}
 use Rattle.model.proofs.Folding.{finished-at, sum-goes-on, given-none}
 use Rattle.model.proofs.RadiusRules.{given-radius, joined-radius, finished-radius, finished-in, joined-in}
 use Rattle.whole.specs.Tab.{any}
-use Rattle.model.proofs.Laws.{Laws, within, same-next, file-in, with-box, no-verdict, body-point, file-agrees, rising}
+use Rattle.model.proofs.Laws.{Laws, within, same-next, file-in, with-box, no-verdict, body-point, body-same, file-agrees, rising}
 use Rattle.rational.specs.Sum as Sum
 
 pub laws : Laws tied
@@ -39,7 +41,7 @@ laws = record {
   next-counted = λ b next s. sym (add-zero next);
   fresh-range = λ b p m o c. Sum.none;
   same-fresh = λ h b. refl;
-  same-move = λ h b x i. rw (h .values, h .numbers, h .offsets);
+  same-move = λ h b x i. ap (λ (y : Vector). x i +ℚ y i) (body-same h (givenSet b) (h .values));
   keeps = λ b p m next s {α} {x} l w agree i h q.
       let v = given-valid b _ _ _ _ _ q in
       let y = same-values (file-agrees p agree v) .0 (body-point p m (givenSet b) (p .values) (i .numbers) (i .offsets)) in
