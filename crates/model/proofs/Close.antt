@@ -4,7 +4,7 @@ use mathlib.Core.Path.{_≡_, refl, sym, _∙_, ap, ap₂, subst}
 use mathlib.Core.List.{List, [], _∷_, map}
 use Prim.Native.Nat.{ℕ, _+_, _*_, _<_, _≤_}
 use native.Mathlib.Omega.{arith}
-use lib.ListN.{length, length-map}
+use lib.ListN.{length, getD, length-map}
 use lib.IntN.{pos, natAbs}
 use Rattle.whole.specs.Round.{scale, round}
 use Rattle.whole.specs.Sum.{sumBy, sumℕ, uptoℕ, upto-bound}
@@ -17,12 +17,12 @@ use Rattle.rational.specs.Near.{Near, near-refl, near-trans, near-as}
 use Rattle.rational.specs.Sum.{none}
 use Rattle.model.specs.Limits.{maxTerms, maxGenerators}
 use Rattle.model.specs.Set.{Zonotope, at, radius, termSizes, generatorSizes, independentSize}
-use Rattle.model.specs.Step.{Step, quadraticAt, slope, remainder, rawLinear, raw, inexactAt, carriedAt, roundedAt, rounded}
+use Rattle.model.specs.Step.{Step, RawImage, quadraticAt, slope, remainder, rawLinear, raw, inexactAt, carriedAt, roundedAt, rounded}
 use Rattle.model.specs.Step.{step}
 use Rattle.model.specs.Points.{Vector, valueAt, Point, InRange}
 use Rattle.model.specs.Motion.{image}
 use Rattle.model.specs.Precision.{StepClose}
-use Rattle.model.proofs.Radii.{radius-carried}
+use Rattle.model.proofs.RawUnits.{inRawUnits, raw-units-radius}
 use Rattle.model.proofs.FoldsNothing.{finish-exact}
 use Rattle.model.proofs.WholeForms.{ι-+ℕ, ι-*ℕ}
 use Rattle.model.proofs.RawPoint.{raw-image}
@@ -50,12 +50,13 @@ enough r u h = ≤-whole (scale * r + 8388608 * u) (scale * u + 8388608) (simp (
     high : ι (pos (scale * u + 8388608)) ≡ ι (pos scale) *ℚ (ι (pos u) +ℚ ½)
     high = ι-+ℕ (scale * u) 8388608 ∙ ap₂ _+ℚ_ (ι-*ℕ scale u) (sym half) ∙ sym (*ℚ-+ℚ (ι (pos scale)) (ι (pos u)) ½)
 
--- any set without generators and radii: what is a point of it, in raw units, is close to every point of the set rounded
-pub rounded-close : (r : Zonotope) {α z : Vector} (x : Vector) → InRange α → r .generators ≡ []
-    → Point r α (λ i. ι (pos scale) *ℚ x i) → Point (rounded r) α z → (i : ℕ) → i < r .dimension → radius r i ≡ 0
+-- any image without generators and remainder: what is a point of it, in raw units, is close to every point of the image rounded
+pub rounded-close : (r : RawImage) {α z : Vector} (x : Vector) → InRange α → r .generators ≡ []
+    → Point (inRawUnits r) α (λ i. ι (pos scale) *ℚ x i) → Point (rounded r) α z → (i : ℕ) → i < r .dimension
+    → getD (r .remainders) i 0 ≡ 0
     → Near (z i) (x i) (ι (pos (inexactAt r i)) +ℚ ½)
 unfolding rounded carriedAt roundedAt
-rounded-close r {α} {z} x w no-generators from to i h no-radius =
+rounded-close r {α} {z} x w no-generators from to i h no-remainder =
     unscale (ι (pos u) +ℚ ½) (near-trans (near-times (NonNeg-ι scale) found) (near-sym exact)) (enough b u small)
   where
     u : ℕ
@@ -70,16 +71,18 @@ rounded-close r {α} {z} x w no-generators from to i h no-radius =
     none-left : length (r .generators) ≡ 0
     none-left = ap length no-generators
 
-    -- the point is near the value of the set rounded
+    -- the point is near the value of the image rounded
     found : Near (z i) (valueAt (rounded r) α [] i) (ι (pos b))
     found = subst (λ bs. Near (z i) (valueAt (rounded r) α bs i) (ι (pos b)))
         (empty (to .numbers) (to .one-each ∙ length-map (r .generators) (map round) ∙ none-left)) (to .near i h)
 
     -- and so is x
     exact : Near (ι (pos scale) *ℚ x i) (ι (pos scale) *ℚ valueAt (rounded r) α [] i) (ι (pos 8388608) *ℚ ι (pos u))
-    exact = near-as (near-trans (subst (λ bs. Near (ι (pos scale) *ℚ x i) (valueAt r α bs i) (ι (pos (radius r i))))
-        (empty (from .numbers) (from .one-each ∙ none-left)) (from .near i h)) (round-value r α [] w (sym none-left) none i)) refl
-        (ap (λ m. ι (pos m) +ℚ ι (pos 8388608) *ℚ ι (pos u)) no-radius ∙ zero-+ℚ (ι (pos 8388608) *ℚ ι (pos u)))
+    exact = near-as (near-trans (subst (λ bs. Near (ι (pos scale) *ℚ x i) (valueAt (inRawUnits r) α bs i)
+        (ι (pos (radius (inRawUnits r) i)))) (empty (from .numbers) (from .one-each ∙ none-left)) (from .near i h))
+        (round-value r α [] w (sym none-left) none i)) refl
+        (ap (λ m. ι (pos m) +ℚ ι (pos 8388608) *ℚ ι (pos u)) (raw-units-radius r i ∙ no-remainder)
+        ∙ zero-+ℚ (ι (pos 8388608) *ℚ ι (pos u)))
 
 -- ---- no generators and no radii leave no remainder
 pub upto-zero : (f : ℕ → ℕ) (n : ℕ) → ((j : ℕ) → f j ≡ 0) → uptoℕ f n ≡ 0
@@ -111,7 +114,7 @@ module _ (p : Step) (s : Zonotope) (no-generators : s .generators ≡ []) (no-ra
       (ap (map (λ g. tab (p .rows) (rawLinear p s g))) no-generators)
       (raw-image p s w [] (sym (ap length no-generators)) none
       (λ j _. near-as (near-refl (valueAt s α [] j)) refl (ap (λ m. ι (pos m)) (sym (no-radii j)))))
-      pt i h (radius-carried (p .rows) (tab (p .rows) (remainder p s)) i ∙ getD-tab (p .rows) (remainder p s) 0 i h ∙ remainder-zero i)
+      pt i h (getD-tab (p .rows) (remainder p s) 0 i h ∙ remainder-zero i)
 
 -- Closeness (demand 2): the same of a step that folds nothing
 pub step-close : StepClose

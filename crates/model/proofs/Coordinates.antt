@@ -8,7 +8,6 @@ use Rattle.model.specs.Finish.{collectTerms}
 use Rattle.model.specs.Operations.{joined, tiedSum, renumbered, independentSum, reduce}
 use Rattle.model.specs.Step as Step
 use Rattle.model.specs.Step.{raw, rounded}
-use Rattle.model.specs.Operations.{disturb}
 use Rattle.model.specs.Ranged as Ranged
 use Rattle.model.specs.Hull as Hull
 
@@ -35,7 +34,7 @@ module _ (weights : List ℕ) where
   step-coordinates p s = finished-coordinates _ _ (rounded (raw p s))
 
   pub ranged-coordinates : (p : Step.Step) (d : Ranged.Widths) (s : Zonotope) → Ranged.rangedStep weights p d s .dimension ≡ p .rows
-  unfolding Ranged.rangedStep Ranged.gainingStep rounded raw disturb
+  unfolding Ranged.rangedStep Ranged.gainingStep rounded raw
   ranged-coordinates p d s = finished-coordinates _ _ (rounded (Ranged.rangedRaw p d s))
 
   pub hull-coordinates : (next : ℕ) (s u : Zonotope) → Hull.hull weights next s u .dimension ≡ s .dimension

@@ -13,7 +13,7 @@ use Rattle.model.specs.Set.{Term, Zonotope, radius, radiusOf, longer, pl
 use Rattle.model.specs.Finish.{Core, Folded, growth, foldVector, foldTerm, foldGenerator, foldAll, foldSmallest, foldTimes}
 use Rattle.model.specs.Finish.{size, core, collectTerms, dropZeroTerms, dropZeroGenerators, foldHigh, foldTerms}
 use Rattle.model.specs.Finish.{foldGenerators, withTerms, withGenerators, dropUnused, finish, folds}
-use Rattle.model.specs.Step.{rounded}
+use Rattle.model.specs.Step.{RawImage, rounded}
 use Rattle.model.specs.Operations.{joined, renumbered}
 use Rattle.model.specs.Body.{givenSet}
 use Rattle.model.specs.Field.{foldsOf}
@@ -129,7 +129,7 @@ pub finished-at : (u : Zonotope) (i : ℕ)
 finished-at u i = folded-at standardWeights maxTerms maxGenerators u i
 
 -- rounding makes the parts anew
-pub rounded-anew : (r : Zonotope) (i : ℕ) → getD (rounded r .radii .folded) i 0 ≡ 0
+pub rounded-anew : (r : RawImage) (i : ℕ) → getD (rounded r .radii .folded) i 0 ≡ 0
 unfolding rounded
 rounded-anew r i = blank-at (r .dimension) i
 

@@ -8,7 +8,6 @@ use native.Mathlib.Nat.{le-trans}
 use native.Mathlib.Omega.{arith}
 use lib.ListN.{length, length-append}
 use borrow.Author.Tests.{ltb-false}
-use Rattle.whole.specs.Tab.{tab, length-tab}
 use Rattle.rational.specs.Sum.{All, none, more, All-imp, All-++}
 use Rattle.model.specs.Limits.{maxDimension, maxFactors, maxTerms, maxGenerators}
 use Rattle.model.specs.Set.{Zonotope}
@@ -24,11 +23,10 @@ use Rattle.model.proofs.Lists.{sublist-all, sublist-length, all-both}
 use Rattle.model.proofs.Shape.{Shaped, Low, Counts, Ordered, Valid, counted, counts-false, ranged, ranges-false, in-order}
 use Rattle.model.proofs.Shape.{order-false}
 use Rattle.model.proofs.Finished.{Ready, ordered-ready, finished}
-use Rattle.model.proofs.StepShape.{rounded-ready, raw-ready}
+use Rattle.model.proofs.StepShape.{rounded-ready, gaining-ready}
 use Rattle.model.proofs.HullShape.{blended-ready}
 use Rattle.model.proofs.Union.{union-all}
 use Rattle.model.proofs.SumShape.{joined-ready, renumbered-ready, renumbered-dimension, renumbered-in, disturbed-shaped}
-use Rattle.model.proofs.SumShape.{disturbed-ready}
 use Rattle.model.proofs.Ranged.{nothing-gained}
 
 pub record Held (next : ℕ) (s : Zonotope) : Type 0 where
@@ -129,9 +127,9 @@ module _ (weights : List ℕ) {next : ℕ} {s : Zonotope} (h : Held next s) wher
   -- a step, whatever its remainders gain
   pub gaining-held : (gains : ℕ → ℕ) (p : Step.Step) → 0 < p .rows → p .rows ≤ maxDimension
       → tooWide (gainingStep weights gains p s) ≡ false → Held next (gainingStep weights gains p s)
-  unfolding gainingStep disturb rounded Step.raw
+  unfolding gainingStep rounded Step.raw
   gaining-held gains p some few w = finish-held weights (omega arith) (omega arith) (record {
-    ready = rounded-ready (disturbed-ready (tab (p .rows) gains) (length-tab (p .rows) gains) (raw-ready p (held-ready h)));
+    ready = rounded-ready (gaining-ready gains p (held-ready h));
     dimension-some = some;
     dimension-few = few;
     factors-few = h .counts .factors-few;

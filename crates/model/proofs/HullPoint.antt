@@ -31,7 +31,7 @@ use Rattle.model.specs.Hull.{halved, blend, opposite, larger, blended, h
 use Rattle.model.specs.Step.{rounded}
 use Rattle.model.specs.Points.{Vector, monomial, termsAt, generatorsAt, valueAt, Point, InRange}
 use Rattle.model.proofs.Vectors.{at-map}
-use Rattle.model.proofs.Radii.{radius-carried}
+use Rattle.model.proofs.RawUnits.{inRawUnits, raw-units-radius}
 use Rattle.model.proofs.Parts.{spread, generators-spread, convex}
 use Rattle.model.proofs.Ends.{generators-within}
 use Rattle.model.proofs.SumShape.{align-length}
@@ -142,7 +142,8 @@ module _ (next : ℕ) (s u : Zonotope) (γ : Vector) (rising : rises ltb (s .ide
   abbrev H : ℚ
   H = ι (pos 8388608)
 
-  blended-parts : (i : ℕ) → valueAt (blended next s u) γ [] i ≡ H *ℚ (mainAt (joined s u) γ i +ℚ v *ℚ mainAt (joined s (opposite u)) γ i)
+  blended-parts : (i : ℕ) → valueAt (inRawUnits (blended next s u)) γ [] i
+      ≡ H *ℚ (mainAt (joined s u) γ i +ℚ v *ℚ mainAt (joined s (opposite u)) γ i)
   unfolding valueAt blended joined opposite generatorsAt termsAt sum power
   blended-parts i =
       let ms = union (s .identifiers) (u .identifiers) in
@@ -163,7 +164,8 @@ module _ (next : ℕ) (s u : Zonotope) (γ : Vector) (rising : rises ltb (s .ide
           ≡ h *ℚ ((k +ℚ t) +ℚ v *ℚ (l +ℚ r))
       all h k l t r v = simp ring
 
-  blended-value : (i : ℕ) → valueAt (blended next s u) γ [] i ≡ H *ℚ ((1ℚ +ℚ v) *ℚ mainAt s γ i +ℚ (1ℚ +ℚ negℚ v) *ℚ mainAt u γ i)
+  blended-value : (i : ℕ) → valueAt (inRawUnits (blended next s u)) γ [] i
+      ≡ H *ℚ ((1ℚ +ℚ v) *ℚ mainAt s γ i +ℚ (1ℚ +ℚ negℚ v) *ℚ mainAt u γ i)
   blended-value i =
       blended-parts i
       ∙ ap₂ (λ (a b : ℚ). H *ℚ (a +ℚ v *ℚ b)) (joined-main s u rising γ i)
@@ -176,14 +178,14 @@ module _ (next : ℕ) (s u : Zonotope) (γ : Vector) (rising : rises ltb (s .ide
 
   -- ---- a blend of a point of each
   blend-point : {x y : Vector} → s .dimension ≡ u .dimension → Within v 1ℚ → Point s γ x → Point u γ y
-      → Point (blended next s u) γ (λ i. ι (pos scale) *ℚ (½ *ℚ ((1ℚ +ℚ v) *ℚ x i +ℚ (1ℚ +ℚ negℚ v) *ℚ y i)))
+      → Point (inRawUnits (blended next s u)) γ (λ i. ι (pos scale) *ℚ (½ *ℚ ((1ℚ +ℚ v) *ℚ x i +ℚ (1ℚ +ℚ negℚ v) *ℚ y i)))
   unfolding blended
   blend-point {x} {y} d w p q = record {
     numbers = [];
     one-each = refl;
     in-range = Sum.none;
     near = λ i h. near-as (near-by i h) (sym (blended-value i))
-        (sym (ap (λ (n : ℕ). ι (pos n)) (radius-carried (s .dimension) _ i ∙ getD-tab (s .dimension) _ 0 i h)));
+        (sym (ap (λ (n : ℕ). ι (pos n)) (raw-units-radius (blended next s u) i ∙ getD-tab (s .dimension) _ 0 i h)));
   }
     where
       near-by : (i : ℕ) → i < s .dimension

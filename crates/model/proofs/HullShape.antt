@@ -14,6 +14,7 @@ use Rattle.model.specs.Operations.{union, joined}
 use Rattle.model.specs.Hull.{blend, opposite, blended}
 use Rattle.model.proofs.Lists.{Rising, nothing, first}
 use Rattle.model.proofs.Radii.{carried-only-long}
+use Rattle.model.proofs.RawUnits.{inRawUnits}
 use Rattle.model.proofs.Shape.{Row, Shaped}
 use Rattle.model.proofs.Union.{union-all}
 use Rattle.model.proofs.SumShape.{joined-ready}
@@ -66,7 +67,7 @@ opposite-ready {u} r = record {
 }
 
 -- The blend of two sets that are ready for finishing, or finished, has their shape; and is ready where the fresh factor is above theirs.
-pub blended-shaped : (next : ℕ) {s u : Zonotope} → Ready s → Ready u → u .dimension ≡ s .dimension → Shaped (blended next s u)
+pub blended-shaped : (next : ℕ) {s u : Zonotope} → Ready s → Ready u → u .dimension ≡ s .dimension → Shaped (inRawUnits (blended next s u))
 unfolding blended joined opposite
 blended-shaped next {s} {u} a b e =
     let ms = union (s .identifiers) (u .identifiers) in
@@ -84,7 +85,7 @@ blended-shaped next {s} {u} a b e =
     }
 
 pub blended-ready : {next : ℕ} {s u : Zonotope} → Ready s → Ready u → u .dimension ≡ s .dimension → All (_< next) (s .identifiers)
-    → All (_< next) (u .identifiers) → Ready (blended next s u)
+    → All (_< next) (u .identifiers) → Ready (inRawUnits (blended next s u))
 unfolding blended joined opposite all
 blended-ready {next} {s} {u} a b e below above =
     let ms = union (s .identifiers) (u .identifiers) in

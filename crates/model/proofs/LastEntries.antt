@@ -81,7 +81,7 @@ pub last-of-steps :
     × (refusal plane (ranged (pos 0) (pos 0) (negsuc 0) (pos 0)) ≡ some 6)
     × (refusal plane (ranged (pos 0) (pos 0) (pos 0) (negsuc 0)) ≡ some 6)
 unfolding causes firstOf misplaced cut kindOf meaning number word givenStep givenWidths beyondWith tooWide span termSizes generatorSizes
-    radiusOf sumBy uptoBy tab any all step Ranged.rangedStep gainingStep gain disturb rounded raw rawCentre rawLinear rawSquare rawPair
+    radiusOf sumBy uptoBy tab any all step Ranged.rangedStep gainingStep gain rounded raw rawCentre rawLinear rawSquare rawPair
     pairs remainder dot bilinear inexactAt carriedAt roundedAt round exact inexact finish dropUnused foldGenerators foldTerms foldHigh
     dropZeroGenerators dropZeroTerms collectTerms insert collectInto those foldAll foldTimes foldSmallest smallest size keepAt longer
 last-of-steps = (refl, refl, refl, refl, refl, refl, refl, refl, refl)

@@ -12,7 +12,7 @@
 --     PairTable                            each place of the pair table belongs to one pair, in row order
 --     Order, Collect, Merge                the order of terms; collecting doesn't depend on the order in which terms come
 --     FoldOrder, Select, Level, FirstBySize   folding the smallest one at a time is keeping the first by size, then by place
---     Radii                                the radius by its parts
+--     Radii, RawUnits                      the radius by its parts; an image before rounding as a set
 --     Lists, Tests, Shape                  rising lists; the tests of validity as facts, and back
 --     Selected .. Finished, FixedPoint     a finished set is valid but for its span; a valid set is a fixed point of finishing
 --     StepShape .. HullShape, Held         every operation keeps what a run holds
@@ -61,6 +61,7 @@ pub mod Rewritten
 pub mod PairTable
 pub mod Vectors
 pub mod Radii
+pub mod RawUnits
 pub mod Order
 pub mod Collect
 pub mod Merge

@@ -9,7 +9,7 @@ use Rattle.whole.specs.Sum.{sumBy, uptoBy}
 use Rattle.whole.specs.Tab.{tab, any, all}
 use Rattle.rational.specs.Power.{even}
 use Rattle.model.specs.Limits.{standardWeights, firstFresh}
-use Rattle.model.specs.Set.{Term, Zonotope, Radii, termSizes, generatorSizes, longer, radiusOf, carriedOnly}
+use Rattle.model.specs.Set.{Term, Zonotope, Radii, termSizes, generatorSizes, longer, radiusOf}
 use Rattle.model.specs.Valid.{order}
 use Rattle.model.specs.Finish.{insert, collectInto, those, shift, growth, foldVector, foldAll, size, smallest, foldSmallest}
 use Rattle.model.specs.Finish.{foldTimes, keepAt, collectTerms, dropZeroTerms, dropZeroGenerators, foldHigh, foldTerms}
@@ -18,6 +18,7 @@ use Rattle.model.specs.Step.{Step, dot, bilinear, rawCentre, rawLinear, 
 use Rattle.model.specs.Step.{carriedAt, roundedAt, rounded, step}
 use Rattle.model.specs.Operations.{insertIdentifier, union, align, joined, tiedSum, renumbered, independentSum, disturb, reduce}
 use Rattle.model.specs.Hull.{opposite, blended, hull}
+use Rattle.model.proofs.Radii.{carriedOnly}
 
 -- two numbers
 abbrev two : {A : Type 0} → A → A → List A

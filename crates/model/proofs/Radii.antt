@@ -6,8 +6,12 @@ use native.Mathlib.Decide.{decLt}
 use native.Mathlib.Omega.{arith}
 use lib.ListN.{length, getD, List·getD-eq-default}
 use Rattle.whole.specs.Tab.{length-tab, getD-tab, getD-tab-past}
-use Rattle.model.specs.Set.{Radii, radiusOf, plusℕ, plusRadii, withFolded, blank, carriedOnly, givenOnly}
+use Rattle.model.specs.Set.{Radii, radiusOf, plusℕ, plusRadii, withFolded, blank, givenOnly}
 use Rattle.model.proofs.Vectors.{longer-length, plusℕ-at}
+
+-- of n coordinates: all of it carried
+abbrev pub carriedOnly : ℕ → List ℕ → Radii
+carriedOnly n r = record { carried = r; rounded = blank n; folded = blank n; given = blank n }
 
 -- ---- lengths
 -- each part has a number for each of n coordinates

@@ -1,5 +1,5 @@
 -- Radii before and after folding, by operation.
-use mathlib.Core.Path.{_≡_, refl, sym, _∙_, ap₂}
+use mathlib.Core.Path.{_≡_, refl, sym, _∙_}
 use mathlib.Core.List.{List, [], _∷_, map}
 use mathlib.Core.Bool.{Bool, true, false, cond}
 use mathlib.Core.Option.{Option, none, some}
@@ -8,21 +8,21 @@ use native.Mathlib.Omega.{arith}
 use lib.ListN.{getD, List·getD-map}
 use lib.IntN.{pos, natAbs}
 use Rattle.whole.specs.Round.{scale}
-use Rattle.whole.specs.Tab.{tab, getD-tab}
+use Rattle.whole.specs.Tab.{getD-tab}
 use Rattle.model.specs.Limits.{maxDimension, maxTerms, maxGenerators, standardWeights}
 use Rattle.model.specs.Set.{Zonotope, at, radius, radiusOf, independentSize}
 use Rattle.model.specs.Finish.{collectTerms, dropZeroTerms, dropZeroGenerators, foldHigh, foldTerms, foldGenerators, dropUnused}
 use Rattle.model.specs.Finish.{finish}
 use Rattle.model.specs.Step as Step
-use Rattle.model.specs.Step.{Step, raw, remainder, inexactAt, carriedAt, roundedAt, rounded}
-use Rattle.model.specs.Operations.{joined, tiedSum, renumbered, independentSum, disturb, reduce}
+use Rattle.model.specs.Step.{Step, RawImage, raw, remainder, inexactAt, carriedAt, roundedAt, rounded}
+use Rattle.model.specs.Operations.{joined, tiedSum, renumbered, independentSum, reduce}
 use Rattle.model.specs.Ranged as Ranged
 use Rattle.model.specs.Ranged.{gain, gainingRaw, gainingStep}
 use Rattle.model.specs.Hull as Hull
 use Rattle.model.specs.Hull.{larger, blended}
 use Rattle.model.specs.Body.{dimension, radiusWords, givenSet, givenStep, givenWidths, givenRadii, termLimit, generatorLimit}
 use Rattle.model.specs.Field.{foldsOf}
-use Rattle.model.proofs.Radii.{blank-at, radius-carried, radius-given, radius-plus, radius-disturbed}
+use Rattle.model.proofs.Radii.{blank-at, radius-given, radius-plus}
 use Rattle.model.proofs.Folding.{finish-radius}
 use Rattle.model.proofs.Rounded.{rounded-radius}
 
@@ -41,30 +41,28 @@ pub joined-radius : (s u : Zonotope) (i : ℕ) → radius (joined s u) i ≡ rad
 unfolding joined
 joined-radius s u i = radius-plus (s .radii) (u .radii) i
 
--- of a step's image, with gains
-pub raw-radius : (p : Step) (s : Zonotope) (i : ℕ) → i < p .rows → radius (raw p s) i ≡ remainder p s i
+-- S of a step's image, with gains
+pub raw-remainder : (p : Step) (s : Zonotope) (i : ℕ) → i < p .rows → getD (raw p s .remainders) i 0 ≡ remainder p s i
 unfolding raw
-raw-radius p s i h = radius-carried (p .rows) (tab (p .rows) (remainder p s)) i ∙ getD-tab (p .rows) (remainder p s) 0 i h
+raw-remainder p s i h = getD-tab (p .rows) (remainder p s) 0 i h
 
-pub gaining-radius : (gains : ℕ → ℕ) (p : Step) (s : Zonotope) (i : ℕ) → i < p .rows
-    → radius (gainingRaw gains p s) i ≡ remainder p s i + gains i
-unfolding disturb
-gaining-radius gains p s i h =
-    radius-disturbed (raw p s .radii) (tab (p .rows) gains) i ∙ ap₂ _+_ (raw-radius p s i h) (getD-tab (p .rows) gains 0 i h)
+pub gaining-remainder : (gains : ℕ → ℕ) (p : Step) (s : Zonotope) (i : ℕ) → i < p .rows
+    → getD (gainingRaw gains p s .remainders) i 0 ≡ remainder p s i + gains i
+gaining-remainder gains p s i h = getD-tab (p .rows) (λ j. remainder p s j + gains j) 0 i h
 
 pub gaining-inexact : (gains : ℕ → ℕ) (p : Step) (s : Zonotope) (i : ℕ) → inexactAt (gainingRaw gains p s) i ≡ inexactAt (raw p s) i
-unfolding inexactAt disturb
+unfolding inexactAt
 gaining-inexact gains p s i = refl
 
 -- of a blend
-pub blended-radius : (next : ℕ) (s u : Zonotope) (i : ℕ) → i < s .dimension
-    → radius (blended next s u) i ≡ scale * larger (independentSize s i) (independentSize u i)
+pub blended-remainder : (next : ℕ) (s u : Zonotope) (i : ℕ) → i < s .dimension
+    → getD (blended next s u .remainders) i 0 ≡ scale * larger (independentSize s i) (independentSize u i)
 unfolding blended
-blended-radius next s u i h = radius-carried (s .dimension) _ i ∙ getD-tab (s .dimension) _ 0 i h
+blended-remainder next s u i h = getD-tab (s .dimension) _ 0 i h
 
 -- of what is rounded
-pub settled-radius : (r : Zonotope) (i : ℕ) → i < r .dimension
-    → radius (rounded r) i ≡ (radius r i + 16777215) / scale + (inexactAt r i + 1) / 2
+pub settled-radius : (r : RawImage) (i : ℕ) → i < r .dimension
+    → radius (rounded r) i ≡ (getD (r .remainders) i 0 + 16777215) / scale + (inexactAt r i + 1) / 2
 unfolding carriedAt roundedAt
 settled-radius r i h = rounded-radius r i h
 
@@ -82,13 +80,13 @@ pub joined-in : (s u : Zonotope) {i : ℕ} → i < joined s u .dimension → i <
 unfolding joined
 joined-in s u h = h
 
-pub rounded-in : (r : Zonotope) {i : ℕ} → i < rounded r .dimension → i < r .dimension
+pub rounded-in : (r : RawImage) {i : ℕ} → i < rounded r .dimension → i < r .dimension
 unfolding rounded
 rounded-in r h = h
 
 pub raw-in : (gains : ℕ → ℕ) (p : Step) (s : Zonotope) {i : ℕ} → (i < raw p s .dimension → i < p .rows) × (i < gainingRaw gains p s
     .dimension → i < p .rows)
-unfolding raw disturb
+unfolding raw
 raw-in gains p s = (λ h. h, λ h. h)
 
 pub blended-in : (next : ℕ) (s u : Zonotope) {i : ℕ} → i < blended next s u .dimension → i < s .dimension

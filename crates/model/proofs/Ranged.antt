@@ -12,16 +12,15 @@ use borrow.Author.Tests.{le-ltb, eqb-true, eqb-false, eq-eqb, ne-eqb, not-false}
 use lib.Dec.{ltb, eqb}
 use lib.ListN.{length, drop, getD, length-append, List·getD-eq-default}
 use lib.IntN.{ℤ, pos, natAbs}
-use lib.Seq.{ext-getD}
-use Rattle.whole.specs.Tab.{tab, any, tab-cong, length-tab, getD-tab}
+use Rattle.whole.specs.Tab.{any, tab-cong, length-tab}
 use Rattle.rational.specs.Sum as Sum
 use Rattle.rational.specs.Sum.{All, more, All-imp, All-map}
-use Rattle.model.specs.Set.{Zonotope, at, plusℕ, span}
+use Rattle.model.specs.Set.{Zonotope, at, span}
 use Rattle.model.specs.Valid.{tooWide}
 use Rattle.model.specs.Limits.{standardWeights, maxEntry, maxConstant, lastField}
 use Rattle.model.specs.Step as Step
-use Rattle.model.specs.Step.{Step, raw, settled}
-use Rattle.model.specs.Operations.{disturb, box}
+use Rattle.model.specs.Step.{Step, RawImage, remainder, raw, settled}
+use Rattle.model.specs.Operations.{box}
 use Rattle.model.specs.Ranged as Ranged
 use Rattle.model.specs.Ranged.{Widths, gain, gainingRaw, gainingStep, rangedRaw}
 use Rattle.model.specs.Bytes.{byte}
@@ -32,44 +31,33 @@ use Rattle.model.specs.Field.{beyondWith, badWidthRange, negativeWidth, 
 use Rattle.model.specs.Run.{State, current, tag, body, kindOf, meant, Cause, _if_, firstOf, misplaced, ofBody, causes, refusal}
 use Rattle.model.specs.Run.{acceptedBy, refusedAt, after, outcome}
 use Rattle.model.specs.Precision.{NoWidths, ZeroWidths, zeroWidths, WithZeroWidths, ZeroWidthsField}
-use Rattle.model.proofs.Vectors.{longer-length, plusℕ-at}
 use Rattle.model.proofs.Close.{upto-zero}
 use Rattle.model.proofs.Tests.{or-false, false-or, any-false, false-any, all-tab, no-cause}
 use Rattle.model.proofs.ZerosAfter.{words-like, step-like, zeros-after, words-past}
+
+-- the image with other remainders
+abbrev withRemainders : Step → Zonotope → List ℕ → RawImage
+withRemainders p s l = record {
+  dimension = raw p s .dimension;
+  identifiers = raw p s .identifiers;
+  centre = raw p s .centre;
+  terms = raw p s .terms;
+  generators = raw p s .generators;
+  remainders = l;
+}
 
 -- only what the step's coordinates gain matters
 pub gaining-cong : (weights : List ℕ) (p : Step) (s : Zonotope) {f g : ℕ → ℕ} → ((i : ℕ) → i < p .rows → f i ≡ g i)
     → gainingStep weights f p s ≡ gainingStep weights g p s
 unfolding gainingStep
-gaining-cong weights p s {f} {g} h = ap (λ (r : List ℕ). settled weights (disturb r (raw p s))) (tab-cong (p .rows) f g h)
+gaining-cong weights p s {f} {g} h = ap (λ (r : List ℕ). settled weights (withRemainders p s r))
+    (tab-cong (p .rows) _ _ (λ i l. ap (remainder p s i +_) (h i l)))
 
 -- ---- nothing is gained
-plus-zeros : (n : ℕ) (f : ℕ → ℕ) → plusℕ (tab n f) (tab n (λ i. 0)) ≡ tab n f
-plus-zeros n f = ext-getD 0 (plusℕ (tab n f) (tab n (λ i. 0))) (tab n f) long
-    (λ i h. plusℕ-at (tab n f) (tab n (λ i. 0)) i
-    ∙ ap (getD (tab n f) i 0 +_) (getD-tab n (λ i. 0) 0 i (omega (arith, long, length-tab n f)))
-    ∙ add-zero (getD (tab n f) i 0))
-  where
-    long : length (plusℕ (tab n f) (tab n (λ i. 0))) ≡ length (tab n f)
-    long = longer-length _+_ (tab n f) (tab n (λ i. 0)) (length-tab n f ∙ sym (length-tab n (λ i. 0)))
-
 pub nothing-gained-raw : (p : Step) (s : Zonotope) {f : ℕ → ℕ} → ((i : ℕ) → i < p .rows → f i ≡ 0) → gainingRaw f p s ≡ raw p s
-unfolding disturb raw
-nothing-gained-raw p s {f} h =
-    ap (λ (r : List ℕ). disturb r (raw p s)) (tab-cong (p .rows) f (λ i. 0) h)
-    ∙ ap (λ (r : List ℕ). record {
-      dimension = raw p s .dimension;
-      identifiers = raw p s .identifiers;
-      centre = raw p s .centre;
-      terms = raw p s .terms;
-      generators = raw p s .generators;
-      radii = record {
-        carried = raw p s .radii .carried;
-        rounded = raw p s .radii .rounded;
-        folded = raw p s .radii .folded;
-        given = r;
-      };
-    }) (plus-zeros (p .rows) (λ i. 0))
+unfolding raw
+nothing-gained-raw p s h = ap (withRemainders p s)
+    (tab-cong (p .rows) _ (remainder p s) (λ i l. ap (remainder p s i +_) (h i l) ∙ add-zero (remainder p s i)))
 
 pub nothing-gained : (weights : List ℕ) (p : Step) (s : Zonotope) {f : ℕ → ℕ} → ((i : ℕ) → i < p .rows → f i ≡ 0)
     → gainingStep weights f p s ≡ Step.step weights p s

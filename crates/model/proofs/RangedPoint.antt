@@ -1,22 +1,23 @@
 -- A ranged step before it is finished keeps every motion, whatever coefficients it picks within the half-widths.
 use mathlib.Core.Path.{_≡_, refl, sym, _∙_, ap, ap₂, subst, fun-ext}
-use Prim.Native.Nat.{ℕ, _*_, _<_}
+use Prim.Native.Nat.{ℕ, _+_, _*_, _<_}
+use native.Mathlib.Omega.{arith}
 use lib.IntN.{pos}
 use Rattle.whole.specs.Round.{scale}
 use Rattle.whole.specs.Sum.{uptoℕ}
-use Rattle.whole.specs.Tab.{tab, getD-tab}
+use Rattle.whole.specs.Tab.{getD-tab}
 use Rattle.rational.specs.Rational.{ℚ, _+ℚ_, _*ℚ_, _-ℚ_, ι}
 use Rattle.rational.specs.Ring.{+ℚ-assoc, minus-is}
 use Rattle.rational.specs.Order.{gap-eq}
 use Rattle.rational.specs.Bounds.{Within, within-+, within-*, within-ι}
-use Rattle.rational.specs.Near.{Near}
+use Rattle.rational.specs.Near.{Near, near-as}
 use Rattle.rational.specs.Sum.{sum, sum-*}
-use Rattle.model.specs.Set.{Zonotope, at, span}
-use Rattle.model.specs.Step.{Step, raw, rounded}
-use Rattle.model.specs.Operations.{disturb}
-use Rattle.model.specs.Ranged.{Widths, linearWidth, quadraticWidth, gain}
-use Rattle.model.specs.Points.{Vector, Point, InRange}
+use Rattle.model.specs.Set.{Zonotope, at, radius, span}
+use Rattle.model.specs.Step.{Step, remainder, raw, rounded}
+use Rattle.model.specs.Ranged.{Widths, linearWidth, quadraticWidth, gain, gainingRaw, rangedRaw}
+use Rattle.model.specs.Points.{Vector, valueAt, Point, InRange}
 use Rattle.model.specs.Motion.{InWidths, places, imageBy, image}
+use Rattle.model.proofs.RawUnits.{inRawUnits, raw-units-radius}
 use Rattle.model.proofs.Forms.{_⊕_, dotℚ, quadratic, quadratic-+, bilinear-double}
 use Rattle.model.proofs.WholeForms.{ι-+ℕ, ι-*ℕ}
 use Rattle.model.proofs.Spans.{within-as, point-within}
@@ -24,7 +25,7 @@ use Rattle.model.proofs.Raw.{linearRow, formOf, quadraticOf}
 use Rattle.model.proofs.Remainder.{within-upto}
 use Rattle.model.proofs.RawPoint.{image-scaled, raw-point}
 use Rattle.model.proofs.Rounded.{rounded-point}
-use Rattle.model.proofs.SumPoints.{disturbed-point}
+use Rattle.model.proofs.SumPoints.{added-radius, near-moved}
 
 -- what is near is off by the difference
 difference-within : {x v r : ℚ} → Near x v r → Within (x -ℚ v) r
@@ -74,14 +75,28 @@ module _ (p : Step) (A : ℕ → Vector) (Q : ℕ → ℕ → Vector) (x : Vecto
           (sym (ι-*ℕ (quadraticWidth (p .columns) d i j l) _
           ∙ ap (ι (pos (quadraticWidth (p .columns) d i j l)) *ℚ_) (ι-*ℕ (span s j) (span s l))))))
 
+-- an offset within what the remainders gain leaves a point in the image
+gaining-point : (gains : ℕ → ℕ) (p : Step) (s : Zonotope) {α x d : Vector} → ((i : ℕ) → i < p .rows → Within (d i) (ι (pos (gains i))))
+    → Point (inRawUnits (raw p s)) α x → Point (inRawUnits (gainingRaw gains p s)) α (λ i. x i +ℚ d i)
+unfolding raw valueAt
+gaining-point gains p s {α} {x} {d} w pt = record {
+  numbers = pt .numbers;
+  one-each = pt .one-each;
+  in-range = pt .in-range;
+  near = λ i h. near-as (near-moved (pt .near i h) (w i h)) refl (added-radius (radius (inRawUnits (raw p s)) i) (gains i) (omega (
+    arith,
+    raw-units-radius (raw p s) i,
+    raw-units-radius (gainingRaw gains p s) i,
+    getD-tab (p .rows) (remainder p s) 0 i h,
+    getD-tab (p .rows) (λ j. remainder p s j + gains j) 0 i h,
+  )));
+}
+
 -- the exact image of a point, under coefficients within the half-widths, is a point of the rounded image at the same factor values
 pub ranged-point : (p : Step) (d : Widths) (s : Zonotope) {A : ℕ → Vector} {Q : ℕ → ℕ → Vector} {α x : Vector} → s .dimension ≡ p .columns
     → InRange α → InWidths p d A Q → Point s α x
-    → Point (rounded (disturb (tab (p .rows) (gain (p .columns) d s)) (raw p s))) α (imageBy p A Q x)
-unfolding raw
+    → Point (rounded (rangedRaw p d s)) α (imageBy p A Q x)
 ranged-point p d s {A} {Q} {α} {x} e w near pt =
-    let gains = tab (p .rows) (gain (p .columns) d s) in
-    rounded-point (imageBy p A Q x) w (subst (Point (disturb gains (raw p s)) α) (fun-ext (scaled-off p A Q x))
-    (disturbed-point gains (λ i h. within-as
-    (off-within p A Q x d s i h near (λ j k. point-within s j w pt (subst (j <_) (sym e) k))) refl
-    (ap (λ m. ι (pos m)) (sym (getD-tab (p .rows) (gain (p .columns) d s) 0 i h)))) (raw-point p s e w pt)))
+    rounded-point (imageBy p A Q x) w (subst (Point (inRawUnits (rangedRaw p d s)) α) (fun-ext (scaled-off p A Q x))
+    (gaining-point (gain (p .columns) d s) p s
+    (λ i h. off-within p A Q x d s i h near (λ j k. point-within s j w pt (subst (j <_) (sym e) k))) (raw-point p s e w pt)))

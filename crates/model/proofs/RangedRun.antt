@@ -19,7 +19,6 @@ use Rattle.model.specs.Finish.{foldTimes, keepAt, collectTerms, dropZero
 use Rattle.model.specs.Finish.{foldGenerators, dropUnused, finish}
 use Rattle.model.specs.Step.{dot, bilinear, rawCentre, rawLinear, rawSquare, rawPair, pairs, remainder, raw, inexactAt}
 use Rattle.model.specs.Step.{carriedAt, roundedAt, rounded, step}
-use Rattle.model.specs.Operations.{disturb}
 use Rattle.model.specs.Ranged.{gain, gainingStep}
 use Rattle.model.specs.Ranged as Ranged
 use Rattle.model.specs.Bytes.{number, word}
@@ -77,7 +76,7 @@ pub half-widths-add :
     × (run (fields (started ++ field 2 (two 2 2 ++ entries))) begin ≡ left 155 2)
 unfolding after withFolds folds run causes firstOf misplaced cut kindOf fields fieldsWithin meaning number word givenSet givenStep
     givenWidths beyondWith badRange badOrder tooWide span termSizes generatorSizes radiusOf rises order sumBy uptoBy tab any all
-    Ranged.rangedStep gainingStep gain disturb step rounded raw rawCentre rawLinear rawSquare rawPair pairs remainder dot bilinear
+    Ranged.rangedStep gainingStep gain step rounded raw rawCentre rawLinear rawSquare rawPair pairs remainder dot bilinear
     inexactAt carriedAt roundedAt round exact inexact finish dropUnused foldGenerators foldTerms foldHigh dropZeroGenerators
     dropZeroTerms collectTerms insert collectInto those foldAll foldVector shift growth foldTimes foldSmallest smallest size keepAt
     longer even half halfSize
@@ -132,7 +131,7 @@ pub ranged-causes :
     × (refusal far (one (pos 0) (pos 4095) (pos 0) (pos 1) (pos 0)) ≡ none)
     × (refusal far (one (pos 0) (pos 4095) (pos 0) (pos 2) (pos 0)) ≡ some 10)
 unfolding causes firstOf misplaced cut kindOf meaning number word givenStep givenWidths beyondWith tooWide span termSizes generatorSizes
-    radiusOf sumBy uptoBy tab any all Ranged.rangedStep gainingStep gain disturb rounded raw rawCentre rawLinear rawSquare rawPair pairs
+    radiusOf sumBy uptoBy tab any all Ranged.rangedStep gainingStep gain rounded raw rawCentre rawLinear rawSquare rawPair pairs
     remainder dot bilinear inexactAt carriedAt roundedAt round exact inexact finish dropUnused foldGenerators foldTerms foldHigh
     dropZeroGenerators dropZeroTerms collectTerms insert collectInto those foldAll foldTimes foldSmallest smallest size keepAt longer
 ranged-causes = (refl, refl, refl, refl, refl, refl, refl, refl, refl, refl, refl, refl, refl, refl)

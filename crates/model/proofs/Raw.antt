@@ -1,4 +1,4 @@
--- The raw numbers of a step: what the raw set comes to is a quadratic function of what the set comes to.
+-- The raw numbers of a step: what the raw image comes to is a quadratic function of what the set comes to.
 use mathlib.Core.Path.{_≡_, sym, _∙_, ap, ap₂}
 use mathlib.Core.List.{List, [], _∷_, _++_, map}
 use Prim.Native.Nat.{ℕ, _<_}
@@ -13,6 +13,7 @@ use Rattle.model.specs.Set.{Term, Zonotope, at}
 use Rattle.model.specs.Step.{Step, linearAt, quadraticAt, rawCentre, rawLinear, rawSquare, rawPair, own, paired, pairs, raw}
 use Rattle.model.specs.Points.{Vector, monomial, valueAt}
 use Rattle.model.specs.Motion.{places}
+use Rattle.model.proofs.RawUnits.{inRawUnits}
 use Rattle.model.proofs.Parts.{Part, termPart, termParts, generatorParts, spread, spread-++, termParts-++, monomial-+}
 use Rattle.model.proofs.Parts.{terms-spread, generators-spread}
 use Rattle.model.proofs.Forms.{bilinearℚ, bilinear-linear, both, both-linear, square, quadratic, about, about-linear}
@@ -111,11 +112,11 @@ module _ (p : Step) (i : ℕ) where
             ∙ sym (ap (λ v. bilinearOf v v) (spread-cons (termPart α (s .identifiers) t) (termsOf ts))
             ∙ square (places (p .columns)) (formOf p i) (coordinates (t .coefficients)) (monomialOf t) (spread (termsOf ts)))
 
-        -- the value of the raw set, by what the set's terms and its generators come to
+        -- the value of the raw image, by what the set's terms and its generators come to
         pub raw-value : (bs : List ℚ)
             → let K = coordinates (s .centre) in let T = spread (termsOf (s .terms)) in
             let G = spread (generatorParts (s .generators) bs) in
-            valueAt (raw p s) α bs i
+            valueAt (inRawUnits (raw p s)) α bs i
             ≡ ι (pos scale) *ℚ ι (at (p .constant) i) +ℚ quadraticOf K +ℚ (aboutOf K T +ℚ bilinearOf T T) +ℚ aboutOf K G
         unfolding valueAt raw
         raw-value bs =

@@ -1,4 +1,4 @@
--- The first stage of a step: the exact image of a point, in raw units, is a point of the raw set at the same factor values.
+-- The first stage of a step: the exact image of a point, in raw units, is a point of the raw image at the same factor values.
 use mathlib.Core.Path.{_≡_, refl, sym, _∙_, ap, ap₂, subst, fun-ext}
 use mathlib.Core.List.{List}
 use Prim.Native.Nat.{ℕ, _<_}
@@ -18,7 +18,7 @@ use Rattle.model.specs.Set.{Zonotope, at, radius, independentSize}
 use Rattle.model.specs.Step.{Step, raw, rawLinear, remainder}
 use Rattle.model.specs.Points.{Vector, valueAt, Point, InRange}
 use Rattle.model.specs.Motion.{places, imageBy, image}
-use Rattle.model.proofs.Radii.{radius-carried}
+use Rattle.model.proofs.RawUnits.{inRawUnits, raw-units-radius}
 use Rattle.model.proofs.Parts.{termParts, generatorParts, spread, terms-spread, generators-spread}
 use Rattle.model.proofs.Forms.{_⊕_, dotℚ, row, bilinearℚ, quadratic, expand}
 use Rattle.model.proofs.PartMaps.{coordinates}
@@ -46,11 +46,11 @@ image-scaled p A Q i x =
         ap (_*ℚ pos 1 over 4096) (ι-* (pos 4096) (pos 4096)) ∙ *ℚ-assoc _ _ _
         ∙ ap (ι (pos 4096) *ℚ_) (over-* (pos 1) 4096 (omega arith)) ∙ *ℚ-one (ι (pos 4096))
 
--- one coordinate: the scaled image of what is near the set's value is near the raw set's value, by the remainder
+-- one coordinate: the scaled image of what is near the set's value is near the raw image's value, by the remainder
 raw-near : (p : Step) (s : Zonotope) (i : ℕ) → i < p .rows → {α x : Vector} → InRange α → (bs : List ℚ)
     → length bs ≡ length (s .generators) → All (λ b. Within b 1ℚ) bs
     → ((j : ℕ) → j < p .columns → Near (x j) (valueAt s α bs j) (ι (pos (radius s j))))
-    → Near (ι (pos scale) *ℚ image p x i) (valueAt (raw p s) α bs i) (ι (pos (remainder p s i)))
+    → Near (ι (pos scale) *ℚ image p x i) (valueAt (inRawUnits (raw p s)) α bs i) (ι (pos (remainder p s i)))
 unfolding image _⊕_ valueAt
 raw-near p s i below {α} {x} w bs e r near = record {
   off = rest;
@@ -91,21 +91,21 @@ raw-near p s i below {α} {x} w bs e r near = record {
     regroup : (a b c d f : ℚ) → a +ℚ (b +ℚ c +ℚ d +ℚ f) ≡ a +ℚ b +ℚ c +ℚ d +ℚ f
     regroup a b c d f = simp ring
 
--- the scaled image of what is near the set's value is a point of the raw set
+-- the scaled image of what is near the set's value is a point of the raw image
 pub raw-image : (p : Step) (s : Zonotope) {α x : Vector} → InRange α → (bs : List ℚ)
     → length bs ≡ length (s .generators) → All (λ b. Within b 1ℚ) bs
     → ((j : ℕ) → j < p .columns → Near (x j) (valueAt s α bs j) (ι (pos (radius s j))))
-    → Point (raw p s) α (λ i. ι (pos scale) *ℚ image p x i)
+    → Point (inRawUnits (raw p s)) α (λ i. ι (pos scale) *ℚ image p x i)
 unfolding raw
 raw-image p s w bs e r near = record {
   numbers = bs;
   one-each = e ∙ sym (length-map (s .generators) (λ g. tab (p .rows) (rawLinear p s g)));
   in-range = r;
   near = λ i h. near-as (raw-near p s i h w bs e r near) refl
-      (ap (λ m. ι (pos m)) (sym (radius-carried (p .rows) (tab (p .rows) (remainder p s)) i ∙ getD-tab (p .rows) (remainder p s) 0 i h)));
+      (ap (λ m. ι (pos m)) (sym (raw-units-radius (raw p s) i ∙ getD-tab (p .rows) (remainder p s) 0 i h)));
 }
 
--- the scaled image of a point is a point of the raw set
+-- the scaled image of a point is a point of the raw image
 pub raw-point : (p : Step) (s : Zonotope) {α x : Vector} → s .dimension ≡ p .columns → InRange α → Point s α x
-    → Point (raw p s) α (λ i. ι (pos scale) *ℚ image p x i)
+    → Point (inRawUnits (raw p s)) α (λ i. ι (pos scale) *ℚ image p x i)
 raw-point p s d w pt = raw-image p s w (pt .numbers) (pt .one-each) (pt .in-range) (λ j h. pt .near j (subst (j <_) (sym d) h))

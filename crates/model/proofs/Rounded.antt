@@ -1,4 +1,4 @@
--- The second stage of a step, of any set: where 16,777,216·x is a point of the set, x is a point of the set rounded.
+-- The second stage of a step, of any image in raw units: where 16,777,216·x is a point of it, x is a point of the image rounded.
 use mathlib.Core.Path.{_≡_, refl, sym, _∙_, ap, ap₂, subst}
 use mathlib.Core.List.{List, _++_, map, map-append}
 use Prim.Native.Nat.{ℕ, _+_, _*_, _≤_, _<_}
@@ -18,10 +18,11 @@ use Rattle.rational.specs.Order.{≤ℚ-refl, ι-mono}
 use Rattle.rational.specs.Bounds.{Within, within-*, within-mono, within-ι, within-scaled, within-NonNeg}
 use Rattle.rational.specs.Near.{Near, near-+, near-trans, near-mono, near-as}
 use Rattle.rational.specs.Sum.{sum-*, sum-cong, sum-near, All, All-imp, All-++}
-use Rattle.model.specs.Set.{Zonotope, at, radius, radiusOf}
-use Rattle.model.specs.Step.{inexactAt, carriedAt, roundedAt, rounded}
+use Rattle.model.specs.Set.{at, radius, radiusOf}
+use Rattle.model.specs.Step.{RawImage, inexactAt, carriedAt, roundedAt, rounded}
 use Rattle.model.specs.Points.{Vector, valueAt, Point, InRange}
 use Rattle.model.proofs.Radii.{blank-at}
+use Rattle.model.proofs.RawUnits.{inRawUnits, raw-units-radius}
 use Rattle.model.proofs.Parts.{Part, termParts, generatorParts, partsOf, spread, value-parts, Ranged, terms-ranged}
 use Rattle.model.proofs.Parts.{generators-ranged}
 use Rattle.model.proofs.WholeForms.{ι-+ℕ, ι-*ℕ}
@@ -66,16 +67,16 @@ round-spread {ps} h i = near-as (sum-near (All-imp (λ p r. near-scaled (ι-roun
     ∙ sum-* (ι (pos scale)) _ ps ∙ ap (ι (pos scale) *ℚ_) (sym (spread-map (map round) ps i)))
     (sum-* (ι (pos 8388608)) _ ps ∙ ap (ι (pos 8388608) *ℚ_) (sym (ι-sumℕ (λ p. inexact (at (p .vector) i)) ps)))
 
--- ---- a set
-module _ (r : Zonotope) (α : Vector) (bs : List ℚ) where
-  rounded-parts : partsOf (rounded r) α bs ≡ map (through (map round)) (partsOf r α bs)
+-- ---- an image
+module _ (r : RawImage) (α : Vector) (bs : List ℚ) where
+  rounded-parts : partsOf (rounded r) α bs ≡ map (through (map round)) (partsOf (inRawUnits r) α bs)
   unfolding rounded
   rounded-parts =
       ap₂ _++_ (termParts-map (map round) α (r .identifiers) (r .terms)) (generatorParts-map (map round) (r .generators) bs)
       ∙ sym (map-append (through (map round)) (termParts α (r .identifiers) (r .terms)) (generatorParts (r .generators) bs))
 
   inexact-parts : (i : ℕ) → length bs ≡ length (r .generators)
-      → inexact (at (r .centre) i) + inexactParts (partsOf r α bs) i ≡ inexactAt r i
+      → inexact (at (r .centre) i) + inexactParts (partsOf (inRawUnits r) α bs) i ≡ inexactAt r i
   unfolding inexactAt
   inexact-parts i e =
       let t = termParts α (r .identifiers) (r .terms) in let g = generatorParts (r .generators) bs in
@@ -84,22 +85,23 @@ module _ (r : Zonotope) (α : Vector) (bs : List ℚ) where
       let c = generatorParts-sum (λ v. inexact (at v i)) (r .generators) bs e in
       omega arith
 
-  -- the value of the set and 16,777,216 times that of the set rounded are half a unit apart for each inexact rounding
+  -- the value of the image and 16,777,216 times that of the image rounded are half a unit apart for each inexact rounding
   pub round-value : InRange α → length bs ≡ length (r .generators) → All (λ b. Within b 1ℚ) bs → (i : ℕ)
-      → Near (valueAt r α bs i) (ι (pos scale) *ℚ valueAt (rounded r) α bs i) (ι (pos 8388608) *ℚ ι (pos (inexactAt r i)))
+      → Near (valueAt (inRawUnits r) α bs i) (ι (pos scale) *ℚ valueAt (rounded r) α bs i) (ι (pos 8388608) *ℚ ι (pos (inexactAt r i)))
   unfolding rounded
-  round-value w e h i = record { off = n .off; small = n .small; is = value-parts r α bs i ∙ n .is }
+  round-value w e h i = record { off = n .off; small = n .small; is = value-parts (inRawUnits r) α bs i ∙ n .is }
     where
-      parts : All Ranged (partsOf r α bs)
+      parts : All Ranged (partsOf (inRawUnits r) α bs)
       parts = All-++ (terms-ranged w (r .identifiers) (r .terms)) (generators-ranged (r .generators) h)
 
-      value : valueAt (rounded r) α bs i ≡ ι (round (at (r .centre) i)) +ℚ spread (map (through (map round)) (partsOf r α bs)) i
+      value : valueAt (rounded r) α bs i
+          ≡ ι (round (at (r .centre) i)) +ℚ spread (map (through (map round)) (partsOf (inRawUnits r) α bs)) i
       value = value-parts (rounded r) α bs i ∙ ap₂ _+ℚ_ (ap ι (at-round (r .centre) i)) (ap (λ l. spread l i) rounded-parts)
 
-      count : ι (pos (inexactAt r i)) ≡ ι (pos (inexact (at (r .centre) i))) +ℚ ι (pos (inexactParts (partsOf r α bs) i))
+      count : ι (pos (inexactAt r i)) ≡ ι (pos (inexact (at (r .centre) i))) +ℚ ι (pos (inexactParts (partsOf (inRawUnits r) α bs) i))
       count = ap (λ m. ι (pos m)) (sym (inexact-parts i e)) ∙ ι-+ (pos _) (pos _)
 
-      n : Near (ι (at (r .centre) i) +ℚ spread (partsOf r α bs) i) (ι (pos scale) *ℚ valueAt (rounded r) α bs i)
+      n : Near (ι (at (r .centre) i) +ℚ spread (partsOf (inRawUnits r) α bs) i) (ι (pos scale) *ℚ valueAt (rounded r) α bs i)
           (ι (pos 8388608) *ℚ ι (pos (inexactAt r i)))
       n = near-as (near-+ (ι-round (at (r .centre) i)) (round-spread parts i))
           (sym (ap (ι (pos scale) *ℚ_) value ∙ *ℚ-+ℚ _ _ _)) (sym (ap (ι (pos 8388608) *ℚ_) count ∙ *ℚ-+ℚ _ _ _))
@@ -123,21 +125,23 @@ unscale {y} {v} c n le = subst (λ a. Near a v c) (back y)
 pub ≤-whole : (m n : ℕ) {a b : ℚ} → ι (pos m) ≡ a → ι (pos n) ≡ b → m ≤ n → a ≤ℚ b
 ≤-whole m n {a} e f h = subst (a ≤ℚ_) f (subst (_≤ℚ ι (pos n)) e (ι-mono h))
 
--- the radius of the set rounded: what is carried, and what rounding adds
-pub rounded-radius : (r : Zonotope) (i : ℕ) → i < r .dimension → radius (rounded r) i ≡ carriedAt r i + roundedAt r i
+-- the radius of the image rounded: what is carried, and what rounding adds
+pub rounded-radius : (r : RawImage) (i : ℕ) → i < r .dimension → radius (rounded r) i ≡ carriedAt r i + roundedAt r i
 unfolding rounded radiusOf
 rounded-radius r i h =
     omega (arith, getD-tab (r .dimension) (carriedAt r) 0 i h, getD-tab (r .dimension) (roundedAt r) 0 i h, blank-at (r .dimension) i)
 
--- the radius over the scale and half the count, each rounded up, are enough
-radius-enough : (r : Zonotope) (i : ℕ)
-    → ι (pos (radius r i)) +ℚ ι (pos 8388608) *ℚ ι (pos (inexactAt r i)) ≤ℚ ι (pos scale) *ℚ ι (pos (carriedAt r i + roundedAt r i))
+-- S over the scale and half the count, each rounded up, are enough
+radius-enough : (r : RawImage) (i : ℕ)
+    → ι (pos (radius (inRawUnits r) i)) +ℚ ι (pos 8388608) *ℚ ι (pos (inexactAt r i))
+    ≤ℚ ι (pos scale) *ℚ ι (pos (carriedAt r i + roundedAt r i))
 unfolding carriedAt roundedAt
-radius-enough r i = ≤-whole (radius r i + 8388608 * inexactAt r i) (scale * (carriedAt r i + roundedAt r i))
-    (simp (ι-+ℕ, ι-*ℕ)) (ι-*ℕ scale (carriedAt r i + roundedAt r i)) (omega arith)
+radius-enough r i = ≤-whole (radius (inRawUnits r) i + 8388608 * inexactAt r i) (scale * (carriedAt r i + roundedAt r i))
+    (simp (ι-+ℕ, ι-*ℕ)) (ι-*ℕ scale (carriedAt r i + roundedAt r i)) (omega (arith, raw-units-radius r i))
 
--- where 16,777,216·x is a point of a set, x is a point of the set rounded
-pub rounded-point : {r : Zonotope} {α : Vector} (x : Vector) → InRange α → Point r α (λ i. ι (pos scale) *ℚ x i) → Point (rounded r) α x
+-- where 16,777,216·x is a point of an image, x is a point of the image rounded
+pub rounded-point : {r : RawImage} {α : Vector} (x : Vector) → InRange α → Point (inRawUnits r) α (λ i. ι (pos scale) *ℚ x i)
+    → Point (rounded r) α x
 unfolding rounded
 rounded-point {r} {α} x w pt = record {
   numbers = pt .numbers;

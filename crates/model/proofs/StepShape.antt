@@ -14,9 +14,11 @@ use Rattle.whole.specs.Tab.{all, length-tab}
 use Rattle.rational.specs.Sum.{All, none, more, All-imp, All-map, All-++}
 use Rattle.model.specs.Set.{Term, Zonotope, at, longer, plusℕ}
 use Rattle.model.specs.Valid.{factorless}
-use Rattle.model.specs.Step.{Step, own, paired, pairs, rawCentre, rawLinear, raw, inexactAt, rounded}
+use Rattle.model.specs.Step.{Step, RawImage, own, paired, pairs, rawCentre, rawLinear, raw, inexactAt, rounded}
+use Rattle.model.specs.Ranged.{gainingRaw}
 use Rattle.model.proofs.Vectors.{longer-length}
 use Rattle.model.proofs.Radii.{carried-only-long}
+use Rattle.model.proofs.RawUnits.{inRawUnits}
 use Rattle.model.proofs.Lists.{all-both}
 use Rattle.model.proofs.Shape.{Row, Shaped}
 use Rattle.model.proofs.Finished.{Ready}
@@ -66,8 +68,8 @@ module _ (p : Step) (s : Zonotope) {m n : ℕ} where
       )
       (All-++ (All-map (paired p s t) (All-imp (λ u k. paired-factored t u h k) r)) (pairs-factored r))
 
--- Rounding keeps the shape of a set, and a set that is ready for finishing so.
-pub rounded-shaped : {r : Zonotope} → Shaped r → Shaped (rounded r)
+-- Rounding keeps the shape of an image, and an image that is ready for finishing so.
+pub rounded-shaped : {r : RawImage} → Shaped (inRawUnits r) → Shaped (rounded r)
 unfolding rounded
 rounded-shaped {r} h = record {
   centre-long = length-map (r .centre) round ∙ h .centre-long;
@@ -84,7 +86,7 @@ rounded-shaped {r} h = record {
   generators-long = All-map (map round) (All-imp (λ g e. length-map g round ∙ e) (h .generators-long));
 }
 
-pub rounded-ready : {r : Zonotope} → Ready r → Ready (rounded r)
+pub rounded-ready : {r : RawImage} → Ready (inRawUnits r) → Ready (rounded r)
 unfolding rounded
 rounded-ready h = record {
   shaped = rounded-shaped (h .shaped);
@@ -93,7 +95,7 @@ rounded-ready h = record {
 }
 
 -- The image of a set that is ready for finishing, or finished, is ready in raw units.
-pub raw-ready : (p : Step) {s : Zonotope} → Ready s → Ready (raw p s)
+pub raw-ready : (p : Step) {s : Zonotope} → Ready s → Ready (inRawUnits (raw p s))
 unfolding raw
 raw-ready p {s} r =
     let terms = all-both (r .shaped .rows) (r .has-factors) in
@@ -109,13 +111,29 @@ raw-ready p {s} r =
       has-factors = All-imp (λ t h. h .1) image;
     }
 
+-- so it is whatever its remainders gain
+pub gaining-ready : (gains : ℕ → ℕ) (p : Step) {s : Zonotope} → Ready s → Ready (inRawUnits (gainingRaw gains p s))
+unfolding raw
+gaining-ready gains p {s} r =
+    let h = raw-ready p r in
+    record {
+      shaped = record {
+        centre-long = h .shaped .centre-long;
+        radii-long = carried-only-long (p .rows) _ (length-tab (p .rows) _);
+        rows = h .shaped .rows;
+        generators-long = h .shaped .generators-long;
+      };
+      identifiers-rise = h .identifiers-rise;
+      has-factors = h .has-factors;
+    }
+
 -- ---- past the coordinates nothing is rounded
 sum-none : {A : Type 0} (f : A → ℕ) {l : List A} → All (λ a. f a ≡ 0) l → sumℕ f l ≡ 0
 unfolding sumBy
 sum-none f none = refl
 sum-none f (more h t) = ap₂ _+_ h (sum-none f t)
 
-pub inexact-past : {r : Zonotope} → Shaped r → (i : ℕ) → r .dimension ≤ i → inexactAt r i ≡ 0
+pub inexact-past : {r : RawImage} → Shaped (inRawUnits r) → (i : ℕ) → r .dimension ≤ i → inexactAt r i ≡ 0
 unfolding inexactAt inexact exact
 inexact-past {r} h i past =
     ap₂ _+_ (ap₂ _+_ (zero-at (r .centre) (h .centre-long))

@@ -12,7 +12,7 @@ use Rattle.rational.specs.Rational.{ℚ, _+ℚ_, _*ℚ_, ι}
 use Rattle.rational.specs.Ring.{ring, +ℚ-assoc}
 use Rattle.rational.specs.Pinned.{ι-+}
 use Rattle.rational.specs.Bounds.{Within, within-+}
-use Rattle.rational.specs.Near.{near-+, near-as}
+use Rattle.rational.specs.Near.{Near, near-+, near-as}
 use Rattle.rational.specs.Sum.{sum-++, sum-map, sum-cong, All, All-++, All-imp}
 use Rattle.model.specs.Set.{Term, Zonotope, at, radius}
 use Rattle.model.specs.Valid.{rises}
@@ -78,7 +78,7 @@ joined-value s u r α b c e i =
     regroup a b c d = simp ring
 
 -- radii add
-added-radius : (m n : ℕ) {k : ℕ} → k ≡ m + n → ι (pos m) +ℚ ι (pos n) ≡ ι (pos k)
+pub added-radius : (m n : ℕ) {k : ℕ} → k ≡ m + n → ι (pos m) +ℚ ι (pos n) ≡ ι (pos k)
 added-radius m n e = sym (ap (λ n. ι (pos n)) e ∙ ι-+ (pos m) (pos n))
 
 -- a point of each summand, at the same factor values, gives a point of the sum
@@ -110,6 +110,14 @@ unfolding independentSum renumbered
 independent-point weights next {s} {u} w r d b a f p q =
     tied-point weights {s = s} {u = renumbered next u} w r d (same-values (All-imp a b) .1 p) (renumbered-points next u f .0 q)
 
+-- what is near stays so where it is moved, by as much more
+pub near-moved : {x v r d e : ℚ} → Near x v r → Within d e → Near (x +ℚ d) v (r +ℚ e)
+near-moved {v = v} {d = d} n small = record {
+  off = n .off +ℚ d;
+  small = within-+ (n .small) small;
+  is = ap (_+ℚ d) (n .is) ∙ +ℚ-assoc v (n .off) d;
+}
+
 -- an offset within the disturbance's radii leaves a point in the disturbed set
 pub disturbed-point : (r : List ℕ) {s : Zonotope} {α x d : Vector} → ((i : ℕ) → i < s .dimension → Within (d i) (ι (pos (getD r i 0))))
     → Point s α x → Point (disturb r s) α (λ i. x i +ℚ d i)
@@ -118,9 +126,6 @@ disturbed-point r {s} {α} {x} {d} w p = record {
   numbers = p .numbers;
   one-each = p .one-each;
   in-range = p .in-range;
-  near = λ i h. let n = p .near i h in near-as (record {
-    off = n .off +ℚ d i;
-    small = within-+ (n .small) (w i h);
-    is = ap (_+ℚ d i) (n .is) ∙ +ℚ-assoc (valueAt s α (p .numbers) i) (n .off) (d i);
-  }) refl (added-radius (radius s i) (getD r i 0) (radius-disturbed (s .radii) r i));
+  near = λ i h. near-as (near-moved (p .near i h) (w i h)) refl
+      (added-radius (radius s i) (getD r i 0) (radius-disturbed (s .radii) r i));
 }

@@ -129,11 +129,3 @@ disturbed-shaped r {s} e h = record {
   rows = h .rows;
   generators-long = h .generators-long;
 }
-
-pub disturbed-ready : (r : List ℕ) {s : Zonotope} → length r ≡ s .dimension → Ready s → Ready (disturb r s)
-unfolding disturb
-disturbed-ready r e h = record {
-  shaped = disturbed-shaped r e (h .shaped);
-  identifiers-rise = h .identifiers-rise;
-  has-factors = h .has-factors;
-}

@@ -13,14 +13,14 @@ use Rattle.whole.specs.Sum.{sumBy, uptoBy}
 use Rattle.whole.specs.Tab.{tab, any, all}
 use Rattle.rational.specs.Power.{even}
 use Rattle.model.specs.Limits.{firstFresh}
-use Rattle.model.specs.Set.{termSizes, generatorSizes, span, longer, radiusOf, blank, carriedOnly}
+use Rattle.model.specs.Set.{termSizes, generatorSizes, span, longer, radiusOf, blank}
 use Rattle.model.specs.Valid.{order, rises, badRange, badOrder, tooWide}
 use Rattle.model.specs.Finish.{insert, collectInto, those, shift, growth, foldVector, foldAll, size, smallest, foldSmallest, folds}
 use Rattle.model.specs.Finish.{foldTimes, keepAt, collectTerms, dropZeroTerms, dropZeroGenerators, foldHigh, foldTerms}
 use Rattle.model.specs.Finish.{foldGenerators, dropUnused, finish}
 use Rattle.model.specs.Step.{dot, bilinear, rawCentre, rawLinear, rawSquare, rawPair, pairs, remainder, raw, inexactAt}
 use Rattle.model.specs.Step.{carriedAt, roundedAt, rounded, step}
-use Rattle.model.specs.Operations.{disturb, least, greatest, lowEnd, highEnd, box}
+use Rattle.model.specs.Operations.{least, greatest, lowEnd, highEnd, box}
 use Rattle.model.specs.Ranged.{gain, gainingStep}
 use Rattle.model.specs.Ranged as Ranged
 use Rattle.model.specs.Bytes.{number, word}
@@ -28,6 +28,7 @@ use Rattle.model.specs.Body.{givenSet, givenStep, givenWidths}
 use Rattle.model.specs.Field.{inside, meaning, beyondWith}
 use Rattle.model.specs.Run.{Answer, State, begin, kindOf, firstOf, misplaced, cut, causes, after, outcome, answers, fields, withFolds}
 use Rattle.model.specs.Run.{fieldsWithin, run}
+use Rattle.model.proofs.Radii.{carriedOnly}
 use Rattle.model.proofs.Written.{bytes, words, field}
 
 -- a number for each coordinate
@@ -111,7 +112,7 @@ pub ranged-to-three :
     ≡ left 479 2221 1833)
 unfolding after withFolds folds run causes firstOf misplaced cut kindOf fields fieldsWithin meaning number word givenSet givenStep
     givenWidths beyondWith badRange badOrder tooWide span termSizes generatorSizes radiusOf rises order sumBy uptoBy tab any all
-    Ranged.rangedStep gainingStep gain disturb rounded raw rawCentre rawLinear rawSquare rawPair pairs remainder dot bilinear inexactAt
+    Ranged.rangedStep gainingStep gain rounded raw rawCentre rawLinear rawSquare rawPair pairs remainder dot bilinear inexactAt
     carriedAt roundedAt round exact inexact finish dropUnused foldGenerators foldTerms foldHigh dropZeroGenerators dropZeroTerms
     collectTerms insert collectInto those foldAll foldVector shift growth foldTimes foldSmallest smallest size keepAt longer even half
     halfSize

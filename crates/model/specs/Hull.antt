@@ -8,8 +8,8 @@ use lib.ListN.{length, replicate}
 use lib.IntN.{ℤ, pos, negℤ, _*ℤ_}
 use Rattle.whole.specs.Round.{scale}
 use Rattle.whole.specs.Tab.{tab}
-use Rattle.model.specs.Set.{Term, Zonotope, independentSize, carriedOnly}
-use Rattle.model.specs.Step.{settled}
+use Rattle.model.specs.Set.{Term, Zonotope, independentSize}
+use Rattle.model.specs.Step.{RawImage, settled}
 use Rattle.model.specs.Operations.{joined}
 
 -- ---- 1. raw numbers, in 1/16,777,216
@@ -37,7 +37,7 @@ abbrev pub larger : ℕ → ℕ → ℕ
 larger m n = cond (ltb m n) n m
 
 -- x a point of s, y one of u, v the blending factor: (x + y)/2 + v(x - y)/2, and the larger independent part
-unfoldable pub blended : ℕ → Zonotope → Zonotope → Zonotope
+unfoldable pub blended : ℕ → Zonotope → Zonotope → RawImage
 blended next s u =
     let sum = joined s u in
     let difference = joined s (opposite u) in
@@ -49,7 +49,7 @@ blended next s u =
           record { exponents = replicate (length (sum .identifiers)) 0 ++ (1 ∷ []); coefficients = halved (difference .centre) }
           ∷ (map (blend 0) (sum .terms) ++ map (blend 1) (difference .terms));
       generators = [];
-      radii = carriedOnly (s .dimension) (tab (s .dimension) (λ i. scale * larger (independentSize s i) (independentSize u i)));
+      remainders = tab (s .dimension) (λ i. scale * larger (independentSize s i) (independentSize u i));
     }
 
 -- ---- 2. each is rounded, and the result finished

@@ -6,8 +6,7 @@ use lib.ListN.{getD}
 use Rattle.whole.specs.Sum.{uptoℕ}
 use Rattle.whole.specs.Tab.{tab}
 use Rattle.model.specs.Set.{Zonotope, span}
-use Rattle.model.specs.Step.{Step, raw, settled}
-use Rattle.model.specs.Operations.{disturb}
+use Rattle.model.specs.Step.{Step, RawImage, remainder, raw, settled}
 
 -- beside a step: the half-widths of A's entries by rows, then of Q's by forms and rows, each as one list, in 1/4096
 pub record Widths : Type 0 where
@@ -31,8 +30,15 @@ module _ (n : ℕ) (d : Widths) where
       + uptoℕ (λ j. uptoℕ (λ l. quadraticWidth i j l * (span s j * span s l)) n) n
 
 -- the step where S gains these numbers, by coordinate, before its one rounding up
-abbrev pub gainingRaw : (ℕ → ℕ) → Step → Zonotope → Zonotope
-gainingRaw gains p s = disturb (tab (p .rows) gains) (raw p s)
+abbrev pub gainingRaw : (ℕ → ℕ) → Step → Zonotope → RawImage
+gainingRaw gains p s = let r = raw p s in record {
+  dimension = r .dimension;
+  identifiers = r .identifiers;
+  centre = r .centre;
+  terms = r .terms;
+  generators = r .generators;
+  remainders = tab (p .rows) (λ i. remainder p s i + gains i);
+}
 
 unfoldable pub gainingStep : List ℕ → (ℕ → ℕ) → Step → Zonotope → Zonotope
 gainingStep weights gains p s = settled weights (gainingRaw gains p s)
@@ -42,5 +48,5 @@ unfoldable pub rangedStep : List ℕ → Step → Widths → Zonotope → Zonoto
 rangedStep weights p d s = gainingStep weights (gain (p .columns) d s) p s
 
 -- before rounding
-abbrev pub rangedRaw : Step → Widths → Zonotope → Zonotope
+abbrev pub rangedRaw : Step → Widths → Zonotope → RawImage
 rangedRaw p d s = gainingRaw (gain (p .columns) d s) p s

@@ -85,9 +85,6 @@ withFolded r f = record { carried = r .carried; rounded = r .rounded; folded = f
 abbrev pub blank : ℕ → List ℕ
 blank n = tab n (λ i. 0)
 
--- of n coordinates: all of it carried, and all of it given
-abbrev pub carriedOnly : ℕ → List ℕ → Radii
-carriedOnly n r = record { carried = r; rounded = blank n; folded = blank n; given = blank n }
-
+-- of n coordinates: all of it given
 abbrev pub givenOnly : ℕ → List ℕ → Radii
 givenOnly n r = record { carried = blank n; rounded = blank n; folded = blank n; given = r }

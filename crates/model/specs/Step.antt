@@ -1,12 +1,13 @@
 -- The polynomial step x' = c + Ax + Q(x, x), as Proposition 13 of source document 001 with a coarser and simpler remainder.
 use mathlib.Core.List.{List, [], _∷_, _++_, map}
 use Prim.Native.Nat.{ℕ, _+_, _*_, _/_}
+use lib.ListN.{getD}
 use lib.IntN.{ℤ, pos, natAbs, _+ℤ_, _*ℤ_}
 use Rattle.whole.specs.Round.{scale, round, inexact}
 use Rattle.whole.specs.Sum.{sumℕ, uptoℕ, uptoℤ}
 use Rattle.whole.specs.Tab.{tab}
 use Rattle.model.specs.Limits.{maxTerms, maxGenerators}
-use Rattle.model.specs.Set.{Term, Zonotope, at, radius, termSizes, independentSize, plusℕ, blank, carriedOnly}
+use Rattle.model.specs.Set.{Term, Zonotope, at, radius, termSizes, independentSize, plusℕ, blank}
 use Rattle.model.specs.Finish.{finish}
 
 -- from `columns` coordinates to `rows`: c, then A by rows, then Q by forms and rows, each as one list. A and Q are in 1/4096
@@ -31,7 +32,16 @@ dot n a x = uptoℤ (λ j. a j *ℤ x j) n
 unfoldable pub bilinear : ℕ → (ℕ → ℕ → ℤ) → (ℕ → ℤ) → (ℕ → ℤ) → ℤ
 bilinear n q u v = dot n u (λ j. dot n (q j) v)
 
--- ---- 1. raw numbers, in 1/16,777,216
+-- ---- 1. raw numbers
+-- an image before rounding, in 1/16,777,216 of a unit; its remainder is S, by coordinate
+pub record RawImage : Type 0 where
+  pub dimension : ℕ
+  pub identifiers : List ℕ
+  pub centre : List ℤ
+  pub terms : List Term
+  pub generators : List (List ℤ)
+  pub remainders : List ℕ
+
 module _ (p : Step) (s : Zonotope) where
   -- A_i·g, and Q_i(g, h)
   abbrev pub along : ℕ → List ℤ → ℤ
@@ -73,7 +83,7 @@ module _ (p : Step) (s : Zonotope) where
   pairs [] = []
   pairs (t ∷ ts) = squared t ∷ (map (paired t) ts ++ pairs ts)
 
-  -- what the independent part contributes to coordinate i, with D the terms' sizes, w the radii, r the generators' sizes and the radii:
+  -- S, what the independent part contributes to coordinate i, with D the terms' sizes, w the radii, r the generators' sizes and the radii:
   -- the sum over j of |4096·A_j + sum over l of (Q_jl + Q_lj)·k_l|·w_j, plus that over j, l of |Q_jl|·(D_j·r_l + r_j·D_l + r_j·r_l)
   abbrev pub slope : ℕ → ℕ → ℤ
   slope i j = pos 4096 *ℤ linearAt p i j +ℤ uptoℤ (λ l. (quadraticAt p i j l +ℤ quadraticAt p i l j) *ℤ at (s .centre) l) (p .columns)
@@ -86,50 +96,51 @@ module _ (p : Step) (s : Zonotope) where
       (p .columns)) (p .columns)
 
   -- the image in raw units
-  unfoldable pub raw : Zonotope
+  unfoldable pub raw : RawImage
   raw = record {
     dimension = p .rows;
     identifiers = s .identifiers;
     centre = tab (p .rows) rawCentre;
     terms = map own (s .terms) ++ pairs (s .terms);
     generators = map (λ g. tab (p .rows) (rawLinear g)) (s .generators);
-    radii = carriedOnly (p .rows) (tab (p .rows) remainder);
+    remainders = tab (p .rows) remainder;
   }
 
 -- ---- 2. each raw number is rounded
 -- how many numbers of coordinate i are not rounded exactly
-unfoldable pub inexactAt : Zonotope → ℕ → ℕ
-inexactAt s i =
-    inexact (at (s .centre) i)
-    + sumℕ (λ t. inexact (at (t .coefficients) i)) (s .terms)
-    + sumℕ (λ g. inexact (at g i)) (s .generators)
+unfoldable pub inexactAt : RawImage → ℕ → ℕ
+inexactAt r i =
+    inexact (at (r .centre) i)
+    + sumℕ (λ t. inexact (at (t .coefficients) i)) (r .terms)
+    + sumℕ (λ g. inexact (at g i)) (r .generators)
 
--- what is carried: the radius rounded up; and what rounding adds: half of the count rounded up
-unfoldable pub carriedAt : Zonotope → ℕ → ℕ
-carriedAt s i = (radius s i + 16777215) / scale
+-- what is carried: S rounded up
+unfoldable pub carriedAt : RawImage → ℕ → ℕ
+carriedAt r i = (getD (r .remainders) i 0 + 16777215) / scale
 
-unfoldable pub roundedAt : Zonotope → ℕ → ℕ
-roundedAt s i = (inexactAt s i + 1) / 2
+-- what rounding adds: half of the count rounded up
+unfoldable pub roundedAt : RawImage → ℕ → ℕ
+roundedAt r i = (inexactAt r i + 1) / 2
 
-unfoldable pub rounded : Zonotope → Zonotope
-rounded s = record {
-  dimension = s .dimension;
-  identifiers = s .identifiers;
-  centre = map round (s .centre);
-  terms = map (λ t. record { exponents = t .exponents; coefficients = map round (t .coefficients) }) (s .terms);
-  generators = map (map round) (s .generators);
+unfoldable pub rounded : RawImage → Zonotope
+rounded r = record {
+  dimension = r .dimension;
+  identifiers = r .identifiers;
+  centre = map round (r .centre);
+  terms = map (λ t. record { exponents = t .exponents; coefficients = map round (t .coefficients) }) (r .terms);
+  generators = map (map round) (r .generators);
   radii = record {
-    carried = tab (s .dimension) (carriedAt s);
-    rounded = tab (s .dimension) (roundedAt s);
-    folded = blank (s .dimension);
-    given = blank (s .dimension);
+    carried = tab (r .dimension) (carriedAt r);
+    rounded = tab (r .dimension) (roundedAt r);
+    folded = blank (r .dimension);
+    given = blank (r .dimension);
   };
 }
 
 -- ---- 3. the result is finished
 -- what becomes of an image in raw units
-abbrev pub settled : List ℕ → Zonotope → Zonotope
-settled weights s = finish weights maxTerms maxGenerators (rounded s)
+abbrev pub settled : List ℕ → RawImage → Zonotope
+settled weights r = finish weights maxTerms maxGenerators (rounded r)
 
 unfoldable pub step : List ℕ → Step → Zonotope → Zonotope
 step weights p s = settled weights (raw p s)

@@ -20,7 +20,7 @@ use Rattle.model.proofs.Accepted.{holdsAt, same, given-dimension, given
 use Rattle.model.proofs.Values.{same-values}
 use Rattle.model.proofs.HullPoint.{hull-point}
 use Rattle.model.proofs.Folding.{finished-at, rounded-anew}
-use Rattle.model.proofs.RadiusRules.{blended-radius, settled-radius, finished-radius, finished-in, rounded-in, blended-in}
+use Rattle.model.proofs.RadiusRules.{blended-remainder, settled-radius, finished-radius, finished-in, rounded-in, blended-in}
 use Rattle.whole.specs.Tab.{any}
 use Rattle.model.proofs.Laws.{Laws, within, file-in, with-box, no-verdict, body-point, body-same, file-agrees, agree-below, rising, old-value, values-range}
 use Rattle.model.specs.Hull as Hull
@@ -70,5 +70,5 @@ laws = record {
       let u = givenSet b in
       let r = blended next s u in
       let l = rounded-in r (finished-in (rounded r) h) in
-      omega (arith, finished-radius (rounded r) i, settled-radius r i l, blended-radius next s u i (blended-in next s u l));
+      omega (arith, finished-radius (rounded r) i, settled-radius r i l, blended-remainder next s u i (blended-in next s u l));
 }

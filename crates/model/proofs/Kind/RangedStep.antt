@@ -17,7 +17,8 @@ use Rattle.model.proofs.Accepted.{holdsAt, same}
 use Rattle.model.proofs.FinishCovers.{finish-covers}
 use Rattle.model.proofs.RangedPoint.{ranged-point}
 use Rattle.model.proofs.Folding.{finished-at, rounded-anew}
-use Rattle.model.proofs.RadiusRules.{gaining-radius, gaining-inexact, settled-radius, finished-radius, finished-in, rounded-in, raw-in}
+use Rattle.model.proofs.RadiusRules.{gaining-remainder, gaining-inexact, settled-radius, finished-radius, finished-in, rounded-in}
+use Rattle.model.proofs.RadiusRules.{raw-in}
 use Rattle.whole.specs.Tab.{any}
 use Rattle.model.proofs.Laws.{Laws, within, same-next, rows-in, with-box, no-verdict}
 use Rattle.model.specs.Ranged as Ranged
@@ -56,7 +57,7 @@ laws = record {
         arith,
         finished-radius (rounded r) i,
         settled-radius r i l,
-        gaining-radius gains p s i (raw-in gains p s .1 l),
+        gaining-remainder gains p s i (raw-in gains p s .1 l),
         gaining-inexact gains p s i,
       );
 }

@@ -16,7 +16,7 @@ use Rattle.model.proofs.Accepted.{holdsAt, same}
 use Rattle.model.proofs.FinishCovers.{finish-covers}
 use Rattle.model.proofs.StepPoint.{step-point}
 use Rattle.model.proofs.Folding.{finished-at, rounded-anew}
-use Rattle.model.proofs.RadiusRules.{raw-radius, settled-radius, finished-radius, finished-in, rounded-in, raw-in}
+use Rattle.model.proofs.RadiusRules.{raw-remainder, settled-radius, finished-radius, finished-in, rounded-in, raw-in}
 use Rattle.whole.specs.Tab.{any}
 use Rattle.model.proofs.Laws.{Laws, within, same-next, rows-in, with-box, no-verdict}
 use Rattle.model.specs.Step as Step
@@ -48,5 +48,5 @@ laws = record {
       let p = givenStep b in
       let r = raw p s in
       let l = rounded-in r (finished-in (rounded r) h) in
-      omega (arith, finished-radius (rounded r) i, settled-radius r i l, raw-radius p s i (raw-in (λ j. 0) p s .0 l));
+      omega (arith, finished-radius (rounded r) i, settled-radius r i l, raw-remainder p s i (raw-in (λ j. 0) p s .0 l));
 }
