@@ -9,8 +9,8 @@ use lib.ListN.{length, getD, replicate}
 use lib.IntN.{ℤ, pos}
 use Rattle.whole.specs.Round.{scale}
 use Rattle.whole.specs.Tab.{tab, tab-cong, getD-tab, getD-tab-past}
-use Rattle.model.specs.Set.{Zonotope, independentSize}
-use Rattle.model.specs.Step.{rounded, carriedAt, roundedAt, inexactAt}
+use Rattle.model.specs.Set.{independentSize}
+use Rattle.model.specs.Step.{RawImage, rounded, carriedAt, roundedAt, inexactAt}
 use Rattle.model.specs.Hull.{larger, blended}
 use Rattle.zonotope.specs.declared.PolyZonotope.{PolyZonotope}
 use Rattle.zonotope.specs.declared.WideRadii.{WideRadii}
@@ -24,7 +24,6 @@ use Rattle.image.specs.Remainder.{Below, spread}
 use Rattle.image.specs.Radii.{independent-are, independent-below}
 use Rattle.image.specs.Rounding.{inexactOf, halfUp}
 use Rattle.image.specs.Counted.{counted, counts-below, halves-below}
-use Rattle.model.proofs.Radii.{radius-carried}
 use Rattle.model.proofs.StepShape.{inexact-past}
 use Rattle.model.proofs.HullShape.{blended-shaped}
 use Rattle.finish.specs.Held.{PartsUnder}
@@ -84,7 +83,7 @@ module _ (a b : PolyZonotope) (h : Summable a b) (next : ℕ) {f : List ℕ} {w 
   abbrev rows : ℕ
   rows = 1 + ((a .terms + b .terms) + (a .terms + b .terms))
 
-  abbrev z : Zonotope
+  abbrev z : RawImage
   z = blended next (view a) (view b)
 
   pub blend-radii-small : PartsUnder (2 ^ 40) (blendRadii a b w rows centre)
@@ -107,7 +106,7 @@ module _ (a b : PolyZonotope) (h : Summable a b) (next : ℕ) {f : List ℕ} {w 
     unfolding carriedAt blended view
     carried-at i l m =
         ap₂ larger (part-at a (h .first) i l) (part-at b (h .second) i l)
-        ∙ sym (ap (λ (n : ℕ). (n + 16777215) / scale) (radius-carried (a .dimension) _ i ∙ getD-tab (a .dimension) _ 0 i m)
+        ∙ sym (ap (λ (n : ℕ). (n + 16777215) / scale) (getD-tab (a .dimension) _ 0 i m)
         ∙ whole (larger (independentSize (view a) i) (independentSize (view b) i)))
       where
         whole : (n : ℕ) → (scale * n + 16777215) / scale ≡ n

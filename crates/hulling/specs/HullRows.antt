@@ -11,7 +11,7 @@ use Rattle.whole.specs.Write.{write, write-length, write-all}
 use Rattle.model.specs.Limits.{standardWeights}
 use Rattle.model.specs.Set.{Zonotope, at}
 use Rattle.model.specs.Finish.{finish}
-use Rattle.model.specs.Step.{rounded}
+use Rattle.model.specs.Step.{RawImage, rounded}
 use Rattle.model.specs.Operations.{joined}
 use Rattle.model.specs.Hull.{blended, hull}
 use Rattle.model.proofs.StepShape.{rounded-shaped}
@@ -48,7 +48,7 @@ module _ (a b : PolyZonotope) (h : Summable a b) (next : ℕ) (all : Identifiers
   abbrev rows : ℕ
   rows = 1 + ((a .terms + b .terms) + (a .terms + b .terms))
 
-  abbrev z : Zonotope
+  abbrev z : RawImage
   z = blended next (view a) (view b)
 
   abbrev image : Zonotope

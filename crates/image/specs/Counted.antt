@@ -12,8 +12,7 @@ use Rattle.whole.specs.Tab.{tab, tab-cong, map-tab, tab-getD, getD-tab, getD-ta
 use Rattle.rows.specs.Rows.{rowsOf}
 use Rattle.model.specs.Set.{Term, Zonotope, at}
 use Rattle.model.specs.Step.{Step, own, paired, pairs, raw, rawCentre, rawLinear, rawSquare, rawPair, remainder}
-use Rattle.model.specs.Step.{inexactAt, carriedAt, roundedAt}
-use Rattle.model.specs.Operations.{disturb}
+use Rattle.model.specs.Step.{RawImage, inexactAt, carriedAt, roundedAt}
 use Rattle.forms.specs.Tables.{rowOf}
 use Rattle.raw.specs.Sums.{sum-tab}
 use Rattle.raw.specs.Append.{wideTerm, term-same}
@@ -22,7 +21,7 @@ use Rattle.raw.specs.Parts.{wideVectors}
 use Rattle.image.specs.Rounding.{inexactIn, inexactOf, halfUp, roundTerm, round-zero, zero-exact, inexact-small, counted-rows}
 use Rattle.image.specs.KeptRows.{kept-counted}
 use Rattle.image.specs.Remainder.{Below, tab-below, roundedUp, imageLimit}
-use Rattle.image.specs.Gaining.{gainedImage, gained-radius}
+use Rattle.image.specs.Gaining.{gainedImage}
 
 -- ---- rounding and the wide form
 at-round : (v : List ℤ) (i : ℕ) → at (map round v) i ≡ round (at v i)
@@ -80,7 +79,7 @@ row-counted v i h =
     let e : 0 * 6 + i ≡ i = omega arith in
     zero-add (inexact (rowOf (tab 6 (at v)) 0 i)) ∙ ap inexact (ap (at (tab 6 (at v))) e ∙ getD-tab 6 (at v) (pos 0) i h)
 
-pub counted : (z : Zonotope) (e : List ℕ) (w centre vectors : List ℤ) (r g : ℕ) → r * 6 ≤ length w → length (z .generators) ≡ g → g ≤ 24
+pub counted : (z : RawImage) (e : List ℕ) (w centre vectors : List ℤ) (r g : ℕ) → r * 6 ≤ length w → length (z .generators) ≡ g → g ≤ 24
     → Kept (rowsOf e w r) (map wideTerm (z .terms)) → centre ≡ tab 6 (at (z .centre)) → vectors ≡ wideVectors (z .generators)
     → (i : ℕ) → i < 6 → inexactOf w r centre vectors g i ≡ inexactAt z i
 unfolding inexactAt inexactOf
@@ -107,8 +106,8 @@ pub halves-below : (counts halves : List ℕ) → Below 4294967296 counts → ha
     → Below imageLimit halves
 halves-below counts halves h e = rw e (tab-below imageLimit 6 (λ i. halfUp (getD counts i 0)) (λ i _. omega (arith, h .below i)))
 
--- sets with the same wide form have the same counts
-pub same-inexact : (y z : Zonotope) → map wideTerm (y .terms) ≡ map wideTerm (z .terms) → wideVectors (y .generators) ≡
+-- images with the same wide form have the same counts
+pub same-inexact : (y z : RawImage) → map wideTerm (y .terms) ≡ map wideTerm (z .terms) → wideVectors (y .generators) ≡
     wideVectors (z .generators)
     → length (y .generators) ≡ length (z .generators) → length (z .generators) ≤ 24 → (i : ℕ) → i < 6 → at (y .centre) i ≡ at (z .centre) i
     → inexactAt y i ≡ inexactAt z i
@@ -156,11 +155,8 @@ module _ (p : Step) (z : Zonotope) (i : ℕ) (past : p .rows ≤ i) where
 
   pub none-carried : (gains : List ℕ) → carriedAt (gainedImage gains p z) i ≡ 0
   unfolding carriedAt
-  none-carried gains =
-      ap roundedUp
-      (gained-radius gains p z i
-      ∙ ap₂ _+_ (getD-tab-past (p .rows) (remainder p z) 0 i past) (getD-tab-past (p .rows) (λ j. getD gains j 0) 0 i past))
+  none-carried gains = ap roundedUp (getD-tab-past (p .rows) (λ j. remainder p z j + getD gains j 0) 0 i past)
 
   pub none-rounded : (gains : List ℕ) → roundedAt (gainedImage gains p z) i ≡ 0
-  unfolding roundedAt inexactAt disturb
+  unfolding roundedAt inexactAt
   none-rounded gains = ap halfUp none-inexact

@@ -1,16 +1,14 @@
 -- What S of each coordinate gains from outside the step, before it is rounded: small numbers, and 0 past the coordinates; nothing for
 -- a step, and for a ranged step what its half-widths add.
 use mathlib.Core.List.{List}
-use mathlib.Core.Path.{_≡_, _∙_, ap}
-use Prim.Native.Nat.{ℕ, _+_, _≤_}
+use mathlib.Core.Path.{_≡_}
+use Prim.Native.Nat.{ℕ, _≤_}
 use native.Mathlib.Omega.{arith}
 use lib.ListN.{getD, replicate}
 use Rattle.whole.specs.Tab.{tab, getD-tab}
-use Rattle.model.specs.Set.{Zonotope, radius}
-use Rattle.model.specs.Step.{Step, raw, remainder, step}
-use Rattle.model.specs.Operations.{disturb}
-use Rattle.model.specs.Ranged.{Widths, gain, gainingStep, rangedStep}
-use Rattle.model.proofs.Radii.{radius-disturbed, radius-carried}
+use Rattle.model.specs.Set.{Zonotope}
+use Rattle.model.specs.Step.{Step, RawImage, step}
+use Rattle.model.specs.Ranged.{Widths, gain, gainingRaw, gainingStep, rangedStep}
 use Rattle.model.proofs.Ranged.{gaining-cong, nothing-gained}
 use Rattle.image.specs.Remainder.{Below, zeros-at, zeros-below}
 
@@ -23,20 +21,8 @@ pub record Gaining (m : ℕ) (gains : List ℕ) : Type 0 where
   pub past : (i : ℕ) → m ≤ i → getD gains i 0 ≡ 0
 
 -- the image in raw units, with what S gains
-abbrev pub gainedImage : List ℕ → Step → Zonotope → Zonotope
-gainedImage gains p z = disturb (tab (p .rows) (λ i. getD gains i 0)) (raw p z)
-
--- the radius of the raw image is S, and what it gains joins that
-raw-radius : (p : Step) (z : Zonotope) (i : ℕ) → radius (raw p z) i ≡ getD (tab (p .rows) (remainder p z)) i 0
-unfolding raw
-raw-radius p z i = radius-carried (p .rows) (tab (p .rows) (remainder p z)) i
-
-pub gained-radius : (gains : List ℕ) (p : Step) (z : Zonotope) (i : ℕ)
-    → radius (gainedImage gains p z) i ≡ getD (tab (p .rows) (remainder p z)) i 0 + getD (tab (p .rows) (λ j. getD gains j 0)) i 0
-unfolding disturb
-gained-radius gains p z i =
-    radius-disturbed (raw p z .radii) (tab (p .rows) (λ j. getD gains j 0)) i
-    ∙ ap (_+ getD (tab (p .rows) (λ j. getD gains j 0)) i 0) (raw-radius p z i)
+abbrev pub gainedImage : List ℕ → Step → Zonotope → RawImage
+gainedImage gains p z = gainingRaw (λ i. getD gains i 0) p z
 
 -- ---- the two kinds of step
 pub none-gaining : (m : ℕ) → Gaining m (replicate 6 0)

@@ -1,7 +1,7 @@
 -- What `of_step` promises: rows, centre, generators, what is carried and what rounding adds are those of the definition's rounded image, in
 -- wide form.
 use mathlib.Core.List.{List, map}
-use mathlib.Core.Path.{_≡_, refl, sym, _∙_, ap, ap₂, subst}
+use mathlib.Core.Path.{_≡_, sym, _∙_, ap, subst}
 use Prim.Native.Nat.{ℕ, _+_, _*_, _<_, _≤_}
 use native.Mathlib.Omega.{arith}
 use lib.IntN.{ℤ, pos}
@@ -10,9 +10,8 @@ use Rattle.whole.specs.Round.{round}
 use Rattle.whole.specs.Tab.{tab, tab-cong, map-tab, length-tab, getD-tab}
 use Rattle.whole.specs.Write.{write, write-all}
 use Rattle.rows.specs.Rows.{rowsOf, Small}
-use Rattle.model.specs.Set.{Term, Zonotope, at}
-use Rattle.model.specs.Step.{Step, raw, rawCentre, rawLinear, remainder, inexactAt, carriedAt, roundedAt, rounded}
-use Rattle.model.specs.Operations.{disturb}
+use Rattle.model.specs.Set.{Term, at}
+use Rattle.model.specs.Step.{Step, RawImage, raw, rawCentre, rawLinear, remainder, inexactAt, carriedAt, roundedAt, rounded}
 use Rattle.zonotope.specs.Record.{view}
 use Rattle.zonotope.specs.declared.PolyZonotope.{PolyZonotope}
 use Rattle.forms.specs.Tables.{tab-small}
@@ -26,7 +25,7 @@ use Rattle.raw.specs.Terms.{RawTerms}
 use Rattle.image.specs.KeptRows.{kept-round}
 use Rattle.image.specs.Rounding.{inexactOf, halfUp, roundTerm, round-small, rounded-rows, rounded-small, bounded-mono}
 use Rattle.image.specs.Remainder.{Below, roundedUp, imageLimit}
-use Rattle.image.specs.Gaining.{Gaining, gainedImage, gained-radius}
+use Rattle.image.specs.Gaining.{Gaining, gainedImage}
 use Rattle.image.specs.Radii.{Carried}
 use Rattle.raw.specs.Parts.{wideVectors, RawCentre, RawGenerators}
 use Rattle.image.specs.Padded.{same-terms, same-centre, same-remainder, same-generators}
@@ -80,10 +79,10 @@ module _ (c a q lines both : List ℤ) (s : PolyZonotope) (ok : InSpan s) (eb : 
   abbrev P : Step
   P = six c a q
 
-  abbrev z : Zonotope
+  abbrev z : RawImage
   z = raw P (view s)
 
-  abbrev gained : Zonotope
+  abbrev gained : RawImage
   gained = gainedImage gains P (view s)
 
   centre-is : centre ≡ z .centre
@@ -110,18 +109,16 @@ module _ (c a q lines both : List ℤ) (s : PolyZonotope) (ok : InSpan s) (eb : 
   carried-at : (i : ℕ) → i < 6 → roundedUp (remainder P (view s) i + getD gains i 0) ≡ getD (tab 6 (carriedAt gained)) i 0
   unfolding carriedAt
   carried-at i h =
-      ap roundedUp
-      (sym (gained-radius gains P (view s) i
-      ∙ ap₂ _+_ (getD-tab 6 (remainder P (view s)) 0 i h) (getD-tab 6 (λ j. getD gains j 0) 0 i h)))
+      ap roundedUp (sym (getD-tab 6 (λ j. remainder P (view s) j + getD gains j 0) 0 i h))
       ∙ sym (getD-tab 6 (carriedAt gained) 0 i h)
 
   rounded-at : (i : ℕ) → i < 6 → halfUp (getD counts i 0) ≡ getD (tab 6 (roundedAt gained)) i 0
-  unfolding roundedAt inexactAt disturb
+  unfolding roundedAt inexactAt
   rounded-at i h = ap halfUp (count-at i h) ∙ sym (getD-tab 6 (roundedAt gained) 0 i h)
 
   pub imaged : Imaged P gains s e₀ w₀
       (record { rows = r; centre = centre′; generators = vectors′; carried = carried; rounded = halves }) e w′
-  unfolding rounded disturb raw
+  unfolding rounded raw
   imaged = record {
     inside = raw-terms .inside;
     terms =
@@ -153,18 +150,16 @@ module _ (c a q lines both : List ℤ) (s : PolyZonotope) (ok : InSpan s) (eb : 
 
 -- ---- on the step's own coordinates
 module _ (p : Step) (shaped : StepShaped p) (gains : List ℕ) (gaining : Gaining (p .rows) gains) (s : PolyZonotope) (ok : InSpan s) where
-  abbrev y : Zonotope
+  abbrev y : RawImage
   y = gainedImage gains (wide p) (view s)
 
-  abbrev x : Zonotope
+  abbrev x : RawImage
   x = gainedImage gains p (view s)
 
   few : length (x .generators) ≤ 24
-  unfolding disturb
   few = rw (images-length p s) (counts-in s ok .3)
 
   as-many : length (y .generators) ≡ length (x .generators)
-  unfolding disturb
   as-many = images-length (wide p) s ∙ sym (images-length p s)
 
   -- numbers of the two images by coordinate, those of the step's own 0 past its rows
@@ -174,17 +169,10 @@ module _ (p : Step) (shaped : StepShaped p) (gains : List ℕ) (gaining : Gainin
 
   carried-same : (i : ℕ) → i < 6 → carriedAt y i ≡ carriedAt x i
   unfolding carriedAt
-  carried-same i h =
-      ap roundedUp
-      (gained-radius gains (wide p) (view s) i
-      ∙ ap₂ _+_ (same-remainder p shaped (view s) i h) (part-same gain gain (λ j l. refl) (gaining .past) i h)
-      ∙ sym (gained-radius gains p (view s) i))
-    where
-      gain : ℕ → ℕ
-      gain j = getD gains j 0
+  carried-same i h = ap roundedUp (same-remainder p shaped (view s) (λ j. getD gains j 0) (gaining .past) i h)
 
   rounded-same : (i : ℕ) → i < 6 → roundedAt y i ≡ roundedAt x i
-  unfolding roundedAt disturb
+  unfolding roundedAt
   rounded-same i h =
       ap halfUp
       (same-inexact y x (same-terms p shaped (view s)) (same-generators p shaped (view s)) as-many few i h
@@ -192,7 +180,7 @@ module _ (p : Step) (shaped : StepShaped p) (gains : List ℕ) (gaining : Gainin
 
   pub imaged-narrow : (e₀ : List ℕ) (w₀ : List ℤ) (r : Image) (e : List ℕ) (w : List ℤ) → Imaged (wide p) gains s e₀ w₀ r e w →
       Imaged p gains s e₀ w₀ r e w
-  unfolding rounded disturb raw
+  unfolding rounded raw
   imaged-narrow e₀ w₀ r e w d = record {
     inside = d .inside;
     terms = kept-to (d .terms)

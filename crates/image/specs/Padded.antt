@@ -1,7 +1,7 @@
 -- The image under the wide step is the image under the step, in wide form: rows of 12 exponents and 6 numbers, continued by zeros.
 use mathlib.Core.List.{List, [], _∷_, _++_, map, map-append}
-use mathlib.Core.Path.{_≡_, refl, sym, _∙_, ap₂}
-use Prim.Native.Nat.{ℕ, zero, suc, _/_, _%_, _<_, _≤_}
+use mathlib.Core.Path.{_≡_, refl, sym, _∙_, ap, ap₂}
+use Prim.Native.Nat.{ℕ, zero, suc, _+_, _/_, _%_, _<_, _≤_}
 use native.Mathlib.Omega.{arith}
 use lib.IntN.{ℤ, pos}
 use lib.ListN.{getD}
@@ -76,10 +76,13 @@ module _ (p : Step) (shaped : StepShaped p) (z : Zonotope) where
       getD-tab 6 (rawCentre W z) (pos 0) i h
       ∙ same-number (pos 0) (rawCentre W z) (rawCentre p z) (λ j l. wide-centre p shaped j l z) (λ j l. centre-none p shaped j l z) i h
 
-  pub same-remainder : (i : ℕ) → i < 6 → getD (tab 6 (remainder W z)) i 0 ≡ getD (tab (p .rows) (remainder p z)) i 0
-  same-remainder i h =
-      getD-tab 6 (remainder W z) 0 i h
-      ∙ same-number 0 (remainder W z) (remainder p z) (λ j l. wide-remainder p shaped j l z) (λ j l. remainder-none p shaped j l z) i h
+  -- with what S gains
+  pub same-remainder : (gain : ℕ → ℕ) → ((i : ℕ) → p .rows ≤ i → gain i ≡ 0) → (i : ℕ) → i < 6
+      → getD (tab 6 (λ j. remainder W z j + gain j)) i 0 ≡ getD (tab (p .rows) (λ j. remainder p z j + gain j)) i 0
+  same-remainder gain past i h =
+      getD-tab 6 (λ j. remainder W z j + gain j) 0 i h
+      ∙ same-number 0 (λ j. remainder W z j + gain j) (λ j. remainder p z j + gain j)
+      (λ j l. ap (_+ gain j) (wide-remainder p shaped j l z)) (λ j l. ap₂ _+_ (remainder-none p shaped j l z) (past j l)) i h
 
   same-vectors : (f g : List ℤ → List ℤ) → ((v : List ℤ) (j : ℕ) → j < 6 → at (f v) j ≡ at (g v) j) → (vs : List (List ℤ)) (t j : ℕ) → j < 6
       → at (getD (map f vs) t []) j ≡ at (getD (map g vs) t []) j

@@ -11,10 +11,8 @@ use Rattle.model.specs.Limits.{maxTerms, maxGenerators, standardWeights}
 use Rattle.model.specs.Set.{Zonotope, at}
 use Rattle.model.specs.Finish.{finish}
 use Rattle.model.specs.Step.{Step, raw, rounded, rawLinear}
-use Rattle.model.specs.Operations.{disturb}
 use Rattle.model.specs.Ranged.{gainingStep}
-use Rattle.model.proofs.StepShape.{raw-ready, rounded-ready}
-use Rattle.model.proofs.SumShape.{disturbed-ready}
+use Rattle.model.proofs.StepShape.{rounded-ready, gaining-ready}
 use Rattle.zonotope.specs.declared.PolyZonotope.{PolyZonotope}
 use Rattle.zonotope.specs.declared.WideRadii.{WideRadii}
 use Rattle.zonotope.specs.Record.{widePartsOf, anew, view}
@@ -78,7 +76,7 @@ module _ (p : Step) (gains : List ℕ) (s : PolyZonotope) (a : AcceptedRecord s)
   image = rounded (gainedImage gains p (view s))
 
   generators-many : length (image .generators) ≡ s .generators
-  unfolding rounded disturb raw view
+  unfolding rounded raw view
   generators-many =
       length-map (raw p (view s) .generators) (map round)
       ∙ length-map (view s .generators) (λ g. tab (p .rows) (rawLinear p (view s) g))
@@ -88,11 +86,9 @@ module _ (p : Step) (gains : List ℕ) (s : PolyZonotope) (a : AcceptedRecord s)
   few = in-limits s (a .passed .counts)
 
   image-narrow : Narrow image
-  unfolding rounded disturb raw view
+  unfolding rounded raw view
   image-narrow = record {
-    shaped =
-        rounded-ready (disturbed-ready (tab (p .rows) (λ i. getD gains i 0)) (length-tab (p .rows) _) (raw-ready p (ready s a)))
-        .shaped;
+    shaped = rounded-ready (gaining-ready (λ i. getD gains i 0) p (ready s a)) .shaped;
     coordinates = shaped p ok .rows;
     factors = rw (length-tab (s .factors) (λ i. getD (s .identifiers) i 0)) (few .factors);
   }
@@ -126,7 +122,7 @@ module _ (p : Step) (gains : List ℕ) (s : PolyZonotope) (a : AcceptedRecord s)
 
     image-wide : held (unfinishedImage p s r radii) (part (rows * 12) e) (part (rows * 6) w) rows (r .generators) (s .generators)
         ≡ wide shortImage
-    unfolding wide rounded disturb raw view
+    unfolding wide rounded raw view
     image-wide = λ k. record {
       dimension = p .rows;
       identifiers = tab (s .factors) (λ i. getD (s .identifiers) i 0);

@@ -10,8 +10,8 @@ use lib.ListN.{length, getD}
 use lib.IntN.{ℤ, pos, natAbs}
 use Rattle.whole.specs.Sum.{monoidℕ, sumℕ, upto-cong}
 use Rattle.whole.specs.Tab.{tab, any, all, getD-tab, length-tab, tab-cong}
-use Rattle.model.specs.Set.{Zonotope, at, radius, radiusOf, span, termSizes, generatorSizes, blank}
-use Rattle.model.specs.Step.{rounded}
+use Rattle.model.specs.Set.{at, radius, radiusOf, span, termSizes, generatorSizes, blank}
+use Rattle.model.specs.Step.{RawImage, rounded}
 use Rattle.model.proofs.Radii.{blank-at}
 use Rattle.model.specs.Valid.{order, isLess, rises, isZero, zeros, factorless, occurs, badRange, badOrder, tooWide}
 use Rattle.model.specs.Limits.{recordIdentifiers, maxSpan}
@@ -54,8 +54,8 @@ view-span s few i h =
     (column (λ g. g) (s .vectors) (s .dimension) i (s .generators) _ h (λ t. refl)))
     (view-radius s few i h)
 
--- radii made anew, from what is carried and what rounding adds, are those of a rounded set
-pub anew-rounded : (z : Zonotope) {c d : List ℕ} → c ≡ firsts 6 (rounded z .radii .carried) → d ≡ firsts 6 (rounded z .radii .rounded)
+-- radii made anew, from what is carried and what rounding adds, are those of a rounded image
+pub anew-rounded : (z : RawImage) {c d : List ℕ} → c ≡ firsts 6 (rounded z .radii .carried) → d ≡ firsts 6 (rounded z .radii .rounded)
     → widePartsOf (anew c d) ≡ firstParts 6 (rounded z .radii)
 unfolding rounded
 anew-rounded z p q =
