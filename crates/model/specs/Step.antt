@@ -33,7 +33,7 @@ unfoldable pub bilinear : ℕ → (ℕ → ℕ → ℤ) → (ℕ → ℤ) → (�
 bilinear n q u v = dot n u (λ j. dot n (q j) v)
 
 -- ---- 1. raw numbers
--- an image before rounding, in 1/16,777,216 of a unit; its remainder is S, by coordinate
+-- an image before rounding, in 1/16,777,216 of a unit in the last place; its remainder is S, by coordinate
 pub record RawImage : Type 0 where
   pub dimension : ℕ
   pub identifiers : List ℕ
