@@ -157,7 +157,8 @@ module _ (st : State) (run : Running st) where
 
     -- its set can be left where it is accepted
     pub effect-leavable : {f : Effect} → f ≡ effect k b (st .next) (st .set) → accepts (f .found) ≡ true → Leavable st (f .anew) (f .set)
-    effect-leavable p = subst (λ (f : Effect). accepts (f .found) ≡ true → Leavable st (f .anew) (f .set)) (sym (p ∙ effect-is)) (go cause refl)
+    effect-leavable p =
+        subst (λ (f : Effect). accepts (f .found) ≡ true → Leavable st (f .anew) (f .set)) (sym (p ∙ effect-is)) (go cause refl)
       where
         go : (o : Option ℕ) → cause ≡ o → accepts (its o .found) ≡ true → Leavable st (its o .anew) (its o .set)
         go none q a = result-means q .1
@@ -167,7 +168,8 @@ module _ (st : State) (run : Running st) where
     pub effect-advanced : (k ≡ unknown → ⊥) → (place bytes : ℕ) {f : Effect} → f ≡ effect k b (st .next) (st .set)
         → concluded st place bytes f ≡ kindAdvanced place st k b bytes
     unfolding kindAdvanced viewed left answerOf
-    effect-advanced known place bytes p = ap (concluded st place bytes) (p ∙ effect-is) ∙ go cause refl (laws k .answers b (st .next) (current (viewed st)))
+    effect-advanced known place bytes p =
+        ap (concluded st place bytes) (p ∙ effect-is) ∙ go cause refl (laws k .answers b (st .next) (current (viewed st)))
       where
         -- what is answered and left for an outcome
         answers-with : Model.Outcome → Advanced

@@ -124,7 +124,8 @@ module _ (st : State) (rest : List ℕ) (header : firstOf (ofHeader (st .count) 
         ∙ effect-advanced st run (kindOf (byte rest 0)) part finds
         (known-tag (byte rest 0) (ready .known .0) (ready .known .1)) place bytes p
         ∙ ap (λ t. kindAdvanced place st (kindOf t) part bytes) (sym (first-tag rest))
-        ∙ ap (λ b. kindAdvanced place st (kindOf (tag (firstField rest))) b bytes) (ap (λ m. take m (drop 3 rest)) n ∙ sym (first-body rest))
+        ∙ ap (λ b. kindAdvanced place st (kindOf (tag (firstField rest))) b bytes)
+        (ap (λ m. take m (drop 3 rest)) n ∙ sym (first-body rest))
         ∙ ap (λ m. kindAdvanced place st (kindOf (tag (firstField rest))) (body (firstField rest)) m) e
         ∙ sym (advanced-is st (firstField rest) on header place)
 

@@ -17,7 +17,8 @@ use Rattle.model.specs.Step.{Step}
 use Rattle.model.specs.Ranged as Ranged
 use Rattle.model.specs.Ranged.{Widths}
 use Rattle.model.specs.Body.{stepColumns, stepLength, givenStep, rangedLength, givenWidths}
-use Rattle.model.specs.Field.{Kind, step, rangedStep, Meaning, meaning, describe, ofStepBody, differs, badStepRange, negativeWidth, badWidthRange}
+use Rattle.model.specs.Field.{Kind, step, rangedStep, Meaning, meaning, describe, ofStepBody, differs, badStepRange, negativeWidth}
+use Rattle.model.specs.Field.{badWidthRange}
 use Rattle.model.specs.Run.{Cause, _if_, firstOf, ofBody}
 use Rattle.model.specs.Library.{badStepLengths, badWidthLengths, ofStep, ofRangedStep}
 use Rattle.zonotope.specs.declared.PolyZonotope.{PolyZonotope}

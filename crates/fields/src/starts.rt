@@ -22,7 +22,8 @@ pub fn effect(first: PolyZonotope, next: u32, body: &[u8]) -> Effect
 
 // The set itself, or a refusal with the record of no set.
 fn given(body: &[u8]) -> Changed
-    ensures { λ r. ⌜ r ≡ answered (bodyRefusal start (now (body .entry)) 0 noSet) (pack noSet) (resultOf start (now (body .entry)) 0 noSet) ⌝ }
+    ensures { λ r. ⌜ r ≡ answered (bodyRefusal start (now (body .entry)) 0 noSet) (pack noSet)
+        (resultOf start (now (body .entry)) 0 noSet) ⌝ }
 {
     let o = sets::of_layout(body);
     if answers::is_refused(o) {

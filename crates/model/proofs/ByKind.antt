@@ -42,7 +42,8 @@ tag-of t h = go (ltb lastTag t) refl
   where
     go : (b : Bool) → ltb lastTag t ≡ b → describe (kindOf t) .tag ≡ t
     go true e =
-        let none : describe (kindOf t) .tag ≡ 0 = ap (λ k. describe k .tag) (List·getD-eq-default kinds unknown {n = t} (ltb-true lastTag t e)) in
+        let none : describe (kindOf t) .tag ≡ 0 =
+        ap (λ k. describe k .tag) (List·getD-eq-default kinds unknown {n = t} (ltb-true lastTag t e)) in
         absurd (omega (arith, h, none))
     go false e = tag-is t (ltb-false lastTag t e)
 

@@ -116,7 +116,8 @@ body-same h s e = λ j i. valueAt s (e j) (tab (length (s .generators)) (h .numb
 abbrev pub Agree : Picks → Vector → Type 0
 Agree p α = (k : ℕ) → k < firstFresh → p .values k ≡ α k
 
-pub file-agrees : (p : Picks) {α : Vector} {s : Zonotope} → Agree p α → Valid fileIdentifiers s → All (λ k. p .values k ≡ α k) (s .identifiers)
+pub file-agrees : (p : Picks) {α : Vector} {s : Zonotope} → Agree p α → Valid fileIdentifiers s
+    → All (λ k. p .values k ≡ α k) (s .identifiers)
 file-agrees p {s = s} e v = All-imp (λ k h. e k (below k (h .1))) (ranged fileIdentifiers s (v .ranges) .identifiers-in)
   where
     below : (k : ℕ) → k ≤ fileIdentifiers → k < firstFresh

@@ -37,6 +37,7 @@
 --     SomeMotion, Extended, Places         every input allows a motion; limits at the accepted fields alone; a field stands at its place
 --     ListingRead, Refuted, RefutedRefusal   the listing as it is read; bytes that are no line; texts with a fault break the promise
 --     OldField, Kept                       the run before request A.5 by its fields; the run of a rewritten file gives what it gave
+--     Clauses                              the definitions over the kinds by clauses, which give the same
 pub mod Marked
 pub mod Listing
 pub mod Written
@@ -144,4 +145,4 @@ pub mod Refuted
 pub mod RefutedRefusal
 pub mod OldField
 pub mod Kept
-pub mod Same
+pub mod Clauses

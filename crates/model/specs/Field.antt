@@ -6,7 +6,8 @@ pub use Rattle.model.specs.Described.{Outcome, inside, verdict, refused,
 pub use Rattle.model.specs.Described.{allZero, badStepRange, badWidthRange, negativeWidth, ofSet, ofStepBody, tooMany}
 pub use Rattle.model.specs.Described.{tooManyBlended, foldsOf, Described}
 unfoldable pub use Rattle.model.specs.Described.{beyondWith}
-pub use Rattle.model.specs.Kind.{Kind, start, step, disturbance, independent, tied, reduction, check, hull, rangedStep, unknown, describe}
+pub use Rattle.model.specs.Kind.{Kind, start, step, disturbance, independent, tied, reduction, check, hull, rangedStep, unknown}
+pub use Rattle.model.specs.Kind.{describe}
 pub use Rattle.model.specs.Kind.{kinds}
 
 unfoldable pub meaning : Kind → List ℕ → ℕ → Zonotope → Meaning

@@ -9,7 +9,7 @@ use Rattle.whole.specs.Half.{half, halfSize}
 use Rattle.whole.specs.Tab.{any, all}
 use Rattle.rational.specs.Power.{even}
 use Rattle.model.specs.Limits.{maxExponent}
-use Rattle.model.specs.Set.{Term, Zonotope, plusℤ, plusℕ, withFolded}
+use Rattle.model.specs.Set.{Term, Zonotope, plusℤ, plusℕ, withFolded, with}
 use Rattle.model.specs.Valid.{Order, less, equal, greater, order, zeros, occurs}
 
 -- ---- collecting: each term in turn goes to its place in a list that rises, or is added where its exponents stand already
@@ -127,35 +127,14 @@ core s = record { centre = s .centre; radii = s .radii .folded }
 
 -- the set after some of its terms, or of its generators, were folded
 abbrev pub withTerms : Zonotope → Folded Term → Zonotope
-withTerms s f = record {
-  dimension = s .dimension;
-  identifiers = s .identifiers;
-  centre = f .core .centre;
-  terms = f .kept;
-  generators = s .generators;
-  radii = withFolded (s .radii) (f .core .radii);
-}
+withTerms s f = with s (f .core .centre) (f .kept) (s .generators) (withFolded (s .radii) (f .core .radii))
 
 abbrev pub withGenerators : Zonotope → Folded (List ℤ) → Zonotope
-withGenerators s f = record {
-  dimension = s .dimension;
-  identifiers = s .identifiers;
-  centre = f .core .centre;
-  terms = s .terms;
-  generators = f .kept;
-  radii = withFolded (s .radii) (f .core .radii);
-}
+withGenerators s f = with s (f .core .centre) (s .terms) (f .kept) (withFolded (s .radii) (f .core .radii))
 
 -- other terms, and all else as it is
 abbrev pub onTerms : (List Term → List Term) → Zonotope → Zonotope
-onTerms f s = record {
-  dimension = s .dimension;
-  identifiers = s .identifiers;
-  centre = s .centre;
-  terms = f (s .terms);
-  generators = s .generators;
-  radii = s .radii;
-}
+onTerms f s = with s (s .centre) (f (s .terms)) (s .generators) (s .radii)
 
 -- 1. terms are sorted by exponents and equal ones added
 unfoldable pub collectTerms : Zonotope → Zonotope
@@ -166,14 +145,7 @@ unfoldable pub dropZeroTerms : Zonotope → Zonotope
 dropZeroTerms s = onTerms (those (λ t. not (zeros (t .coefficients)))) s
 
 unfoldable pub dropZeroGenerators : Zonotope → Zonotope
-dropZeroGenerators s = record {
-  dimension = s .dimension;
-  identifiers = s .identifiers;
-  centre = s .centre;
-  terms = s .terms;
-  generators = those (λ g. not (zeros g)) (s .generators);
-  radii = s .radii;
-}
+dropZeroGenerators s = with s (s .centre) (s .terms) (those (λ g. not (zeros g)) (s .generators)) (s .radii)
 
 -- 3. terms with an exponent that is too large are folded
 unfoldable pub foldHigh : Zonotope → Zonotope
@@ -204,11 +176,5 @@ finish weights termLimit generatorLimit s =
 
 -- what folding adds to each coordinate's radius there: the folded parts that finishing leaves where there were none before
 unfoldable pub folds : List ℕ → ℕ → ℕ → Zonotope → List ℕ
-folds weights termLimit generatorLimit s = finish weights termLimit generatorLimit (record {
-  dimension = s .dimension;
-  identifiers = s .identifiers;
-  centre = s .centre;
-  terms = s .terms;
-  generators = s .generators;
-  radii = withFolded (s .radii) [];
-}) .radii .folded
+folds weights termLimit generatorLimit s =
+    finish weights termLimit generatorLimit (with s (s .centre) (s .terms) (s .generators) (withFolded (s .radii) [])) .radii .folded

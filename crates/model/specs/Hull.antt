@@ -8,7 +8,7 @@ use lib.ListN.{length, replicate}
 use lib.IntN.{ℤ, pos, negℤ, _*ℤ_}
 use Rattle.whole.specs.Round.{scale}
 use Rattle.whole.specs.Tab.{tab}
-use Rattle.model.specs.Set.{Term, Zonotope, independentSize}
+use Rattle.model.specs.Set.{Term, Zonotope, independentSize, with}
 use Rattle.model.specs.Step.{RawImage, settled}
 use Rattle.model.specs.Operations.{joined}
 
@@ -23,14 +23,9 @@ blend k t = record { exponents = t .exponents ++ (k ∷ []); coefficients = halv
 
 -- the set of the points -x
 unfoldable pub opposite : Zonotope → Zonotope
-opposite u = record {
-  dimension = u .dimension;
-  identifiers = u .identifiers;
-  centre = map negℤ (u .centre);
-  terms = map (λ t. record { exponents = t .exponents; coefficients = map negℤ (t .coefficients) }) (u .terms);
-  generators = u .generators;
-  radii = u .radii;
-}
+opposite u =
+    with u (map negℤ (u .centre))
+    (map (λ t. record { exponents = t .exponents; coefficients = map negℤ (t .coefficients) }) (u .terms)) (u .generators) (u .radii)
 
 -- the larger of two
 abbrev pub larger : ℕ → ℕ → ℕ

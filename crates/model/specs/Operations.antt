@@ -9,7 +9,7 @@ use lib.Signed.{ltZ}
 use Rattle.whole.specs.Sum.{sumℕ, sumℤ, uptoℕ}
 use Rattle.whole.specs.Tab.{tab, any}
 use Rattle.model.specs.Limits.{maxTerms, maxGenerators}
-use Rattle.model.specs.Set.{Term, Zonotope, at, radius, plusℤ, plusℕ, plusRadii}
+use Rattle.model.specs.Set.{Term, Zonotope, at, radius, plusℤ, plusℕ, plusRadii, with}
 use Rattle.model.specs.Finish.{finish, allEven}
 use Rattle.model.specs.Step.{dot}
 
@@ -66,19 +66,12 @@ independentSum weights next s u = tiedSum weights s (renumbered next u)
 -- ---- disturbance and reduction
 -- the radii of a disturbance join the given parts
 unfoldable pub disturb : List ℕ → Zonotope → Zonotope
-disturb r s = record {
-  dimension = s .dimension;
-  identifiers = s .identifiers;
-  centre = s .centre;
-  terms = s .terms;
-  generators = s .generators;
-  radii = record {
-    carried = s .radii .carried;
-    rounded = s .radii .rounded;
-    folded = s .radii .folded;
-    given = plusℕ (s .radii .given) r;
-  };
-}
+disturb r s = with s (s .centre) (s .terms) (s .generators) (record {
+  carried = s .radii .carried;
+  rounded = s .radii .rounded;
+  folded = s .radii .folded;
+  given = plusℕ (s .radii .given) r;
+})
 
 unfoldable pub reduce : List ℕ → ℕ → ℕ → Zonotope → Zonotope
 reduce weights termLimit generatorLimit s = finish weights termLimit generatorLimit s

@@ -29,6 +29,17 @@ pub record Zonotope : Type 0 where
   pub generators : List (List ℤ)
   pub radii : Radii
 
+-- the set s with another centre, terms, generators and radii, in the same coordinates and factors
+abbrev pub with : Zonotope → List ℤ → List Term → List (List ℤ) → Radii → Zonotope
+with s centre terms generators radii = record {
+  dimension = s .dimension;
+  identifiers = s .identifiers;
+  centre = centre;
+  terms = terms;
+  generators = generators;
+  radii = radii;
+}
+
 -- the number at place i of a vector, 0 past its end
 abbrev pub at : List ℤ → ℕ → ℤ
 at v i = getD v i (pos 0)

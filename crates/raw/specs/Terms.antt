@@ -16,7 +16,8 @@ use Rattle.zonotope.specs.Record.{view}
 use Rattle.zonotope.specs.declared.PolyZonotope.{PolyZonotope}
 use Rattle.forms.specs.Tables.{rowOf}
 use Rattle.forms.specs.Filling.{first-at}
-use Rattle.forms.specs.Numbers.{six, bothTable, lineTable, columnTable, tableLimit, rawLimit, product-small, term-number, pair-number, square-number}
+use Rattle.forms.specs.Numbers.{six, bothTable, lineTable, columnTable, tableLimit, rawLimit, product-small, term-number, pair-number}
+use Rattle.forms.specs.Numbers.{square-number}
 use Rattle.raw.specs.Accepted.{InSpan}
 use Rattle.raw.specs.Unused.{termAt, counts-in, centre-row, exponent-row, coefficient-row}
 use Rattle.raw.specs.Append.{wideTerm, Bounded, KeptFrom, term-same, rows-first, kept-after}

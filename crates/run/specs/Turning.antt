@@ -26,7 +26,8 @@ use Rattle.advance.specs.RecordRuns.{record-runs}
 use Rattle.run.specs.declared.Course.{Course}
 use Rattle.run.specs.declared.Ran.{Ran}
 use Rattle.run.specs.Whole.{anyWorked, ofInput}
-use Rattle.run.specs.Course.{started, turned, Coursing, begins, turned-is, turns, end-state, end-last, end-worked, Followed, unused, used-again}
+use Rattle.run.specs.Course.{started, turned, Coursing, begins, turned-is, turns, end-state, end-last, end-worked, Followed, unused}
+use Rattle.run.specs.Course.{used-again}
 
 -- the part of the input from the next field on is what is left of it
 pub from-part : (c : Course) (input : List ℕ) {a : Advanced}

@@ -7,7 +7,8 @@ use native.Mathlib.Omega.{arith}
 use lib.ListN.{length, getD, drop}
 use Rattle.rational.specs.Sum.{All, none, more}
 use Rattle.model.specs.Set.{Term, Zonotope}
-use Rattle.model.specs.Finish.{collect, those, onTerms, collectTerms, dropZeroTerms, dropZeroGenerators, foldHigh, foldTerms, foldGenerators}
+use Rattle.model.specs.Finish.{collect, those, onTerms, collectTerms, dropZeroTerms, dropZeroGenerators, foldHigh, foldTerms}
+use Rattle.model.specs.Finish.{foldGenerators}
 use Rattle.model.specs.Finish.{dropUnused, finish}
 use Rattle.model.proofs.Shape.{Row}
 use Rattle.rows.specs.Zero.{nonzeroTerm}

@@ -1,21 +1,21 @@
--- The laws of: a disturbance: offsets within radii join the set.
+-- The laws of a disturbance.
 use mathlib.Core.Path.{refl, sym, _∙_}
 use mathlib.Core.Bool.{true≢false}
 use native.Mathlib.Nat.{add-zero}
 use native.Mathlib.Omega.{arith}
+use Rattle.whole.specs.Tab.{any}
+use Rattle.rational.specs.Sum as Sum
 use Rattle.model.specs.Operations.{disturb}
 use Rattle.model.specs.Body.{givenRadii}
 use Rattle.model.specs.Field.{disturbance, meaning}
 use Rattle.model.specs.Motion.{offsetLimit, move, withValues, valuesAfter, markAfter}
-use Rattle.model.specs.Origin.{ruled}
 use Rattle.model.specs.Promised.{coordinatesAfter}
+use Rattle.model.specs.Origin.{ruled}
+use Rattle.model.proofs.Radii.{radius-disturbed}
 use Rattle.model.proofs.Held.{disturb-held}
 use Rattle.model.proofs.Accepted.{holdsAt, same, given-radii}
 use Rattle.model.proofs.SumPoints.{disturbed-point}
-use Rattle.model.proofs.Radii.{radius-disturbed}
-use Rattle.whole.specs.Tab.{any}
 use Rattle.model.proofs.Laws.{Laws, within, same-next, with-box, no-verdict}
-use Rattle.rational.specs.Sum as Sum
 
 pub laws : Laws disturbance
 unfolding meaning coordinatesAfter markAfter valuesAfter move offsetLimit ruled withValues holdsAt within any disturb

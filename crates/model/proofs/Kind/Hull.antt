@@ -1,30 +1,31 @@
--- The laws of: the hull with a second set.
+-- The laws of the hull.
 use mathlib.Core.Path.{_≡_, refl, sym, _∙_, subst, ap₂}
 use mathlib.Core.Bool.{true≢false}
 use native.Mathlib.Omega.{arith}
 use borrow.Author.Tests.{eq-eqb}
+use Rattle.whole.specs.Tab.{any}
+use Rattle.rational.specs.Sum as Sum
 use Rattle.rational.specs.Rational.{ℚ}
 use Rattle.rational.specs.Sum.{All-imp, more}
 use Rattle.model.specs.Limits.{standardWeights}
 use Rattle.model.specs.Step.{rounded}
+use Rattle.model.specs.Hull as Hull
 use Rattle.model.specs.Hull.{blended}
 use Rattle.model.specs.Body.{givenSet}
-use Rattle.model.specs.Field.{hull, meaning}
 use Rattle.model.specs.Points.{Vector, Point}
+use Rattle.model.specs.Field.{hull, meaning}
 use Rattle.model.specs.Motion.{bodyPoint, offsetLimit, between, move, withValues, freshValues, valuesAfter, markAfter}
-use Rattle.model.specs.Origin.{ruled}
 use Rattle.model.specs.Promised.{coordinatesAfter}
+use Rattle.model.specs.Origin.{ruled}
+use Rattle.model.proofs.Folding.{finished-at, rounded-anew}
 use Rattle.model.proofs.Held.{valid-ready, hull-held}
-use Rattle.model.proofs.Coordinates.{hull-coordinates}
 use Rattle.model.proofs.Accepted.{holdsAt, same, given-dimension, given-valid}
 use Rattle.model.proofs.Values.{same-values}
 use Rattle.model.proofs.HullPoint.{hull-point}
-use Rattle.model.proofs.Folding.{finished-at, rounded-anew}
 use Rattle.model.proofs.RadiusRules.{blended-remainder, settled-radius, finished-radius, finished-in, rounded-in, blended-in}
-use Rattle.whole.specs.Tab.{any}
-use Rattle.model.proofs.Laws.{Laws, within, file-in, with-box, no-verdict, body-point, body-same, file-agrees, agree-below, rising, old-value, values-range}
-use Rattle.model.specs.Hull as Hull
-use Rattle.rational.specs.Sum as Sum
+use Rattle.model.proofs.Coordinates.{hull-coordinates}
+use Rattle.model.proofs.Laws.{Laws, within, file-in, with-box, no-verdict, body-point, body-same, file-agrees, agree-below, rising}
+use Rattle.model.proofs.Laws.{old-value, values-range}
 
 pub laws : Laws hull
 unfolding meaning coordinatesAfter markAfter valuesAfter move offsetLimit ruled withValues holdsAt within any Hull.hull
@@ -59,7 +60,8 @@ laws = record {
       (body-point p m (givenSet b) (p .values) (i .numbers) (i .offsets)) in
       subst (λ (c : ℚ). Point (Hull.hull standardWeights next s (givenSet b)) γ
       (between c x (bodyPoint p m (givenSet b) (p .values)))) e
-      (hull-point standardWeights next (values-range (freshValues hull b p m) next (more (i .blend) Sum.none) w) (rising (h refl .0 .ordered))
+      (hull-point standardWeights next (values-range (freshValues hull b p m) next (more (i .blend) Sum.none) w)
+      (rising (h refl .0 .ordered))
       (sym (given-dimension b ∙ same _ _ (q .not-at 5))) s-in u-in);
   folds-join = λ b next s i. omega (
     arith,

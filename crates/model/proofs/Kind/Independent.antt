@@ -1,31 +1,32 @@
--- The laws of: the sum with a set whose identifiers are its own.
+-- The laws of the independent sum.
 use mathlib.Core.Path.{_≡_, refl, sym, _∙_, ap, ap₂}
 use mathlib.Core.List.{List, [], _∷_, map}
 use mathlib.Core.Bool.{true≢false}
 use Prim.Native.Nat.{ℕ, _+_}
 use native.Mathlib.Omega.{arith}
 use lib.ListN.{length-map}
+use Rattle.whole.specs.Tab.{any}
+use Rattle.rational.specs.Sum as Sum
 use Rattle.rational.specs.Rational.{ℚ, 1ℚ, _+ℚ_}
 use Rattle.rational.specs.Bounds.{Within}
 use Rattle.rational.specs.Sum.{All, All-imp, All-map, more}
 use Rattle.model.specs.Limits.{standardWeights}
 use Rattle.model.specs.Operations.{joined, tiedSum, renumbered, independentSum}
 use Rattle.model.specs.Body.{givenSet}
-use Rattle.model.specs.Field.{independent, meaning}
 use Rattle.model.specs.Points.{Vector, InRange}
+use Rattle.model.specs.Field.{independent, meaning}
 use Rattle.model.specs.Motion.{Picks, offsetLimit, move, withValues, freshValues, valuesAfter, markAfter}
-use Rattle.model.specs.Origin.{ruled}
 use Rattle.model.specs.Promised.{coordinatesAfter}
+use Rattle.model.specs.Origin.{ruled}
 use Rattle.model.proofs.Shape.{counted}
+use Rattle.model.proofs.Folding.{finished-at, sum-goes-on, given-none}
 use Rattle.model.proofs.Held.{held-up, valid-ready, independent-held}
-use Rattle.model.proofs.Coordinates.{independent-coordinates}
 use Rattle.model.proofs.Accepted.{holdsAt, same, given-dimension, given-factors, given-valid}
 use Rattle.model.proofs.SumPoints.{independent-point}
-use Rattle.model.proofs.Folding.{finished-at, sum-goes-on, given-none}
 use Rattle.model.proofs.RadiusRules.{given-radius, renumbered-radius, joined-radius, finished-radius, finished-in, joined-in}
-use Rattle.whole.specs.Tab.{any}
-use Rattle.model.proofs.Laws.{Laws, SameAt, within, with-box, no-verdict, body-point, body-same, rising, old-value, new-value, values-range}
-use Rattle.rational.specs.Sum as Sum
+use Rattle.model.proofs.Coordinates.{independent-coordinates}
+use Rattle.model.proofs.Laws.{Laws, SameAt, within, with-box, no-verdict, body-point, body-same, rising, old-value, new-value}
+use Rattle.model.proofs.Laws.{values-range}
 
 abbrev own : ℕ → Picks → ℕ → ℚ
 own k p m = p .own m k

@@ -1,31 +1,32 @@
--- The laws of: the step whose entries are known within half-widths.
+-- The laws of the ranged step.
 use mathlib.Core.Path.{refl, sym}
 use mathlib.Core.Bool.{true≢false}
 use native.Mathlib.Nat.{add-zero}
 use native.Mathlib.Omega.{arith}
+use Rattle.whole.specs.Tab.{any}
+use Rattle.rational.specs.Sum as Sum
 use Rattle.model.specs.Limits.{maxTerms, maxGenerators, standardWeights}
 use Rattle.model.specs.Step.{rounded}
+use Rattle.model.specs.Ranged as Ranged
 use Rattle.model.specs.Ranged.{gain, gainingRaw, gainingStep}
 use Rattle.model.specs.Body.{stepColumns, givenStep, givenWidths}
 use Rattle.model.specs.Field.{rangedStep, meaning}
 use Rattle.model.specs.Motion.{offsetLimit, move, withValues, valuesAfter, markAfter}
-use Rattle.model.specs.Origin.{ruled}
 use Rattle.model.specs.Promised.{coordinatesAfter}
+use Rattle.model.specs.Origin.{ruled}
+use Rattle.model.proofs.Folding.{finished-at, rounded-anew}
 use Rattle.model.proofs.Held.{gaining-held}
-use Rattle.model.proofs.Coordinates.{ranged-coordinates}
 use Rattle.model.proofs.Accepted.{holdsAt, same}
 use Rattle.model.proofs.FinishCovers.{finish-covers}
 use Rattle.model.proofs.RangedPoint.{ranged-point}
-use Rattle.model.proofs.Folding.{finished-at, rounded-anew}
 use Rattle.model.proofs.RadiusRules.{gaining-remainder, gaining-inexact, settled-radius, finished-radius, finished-in, rounded-in}
 use Rattle.model.proofs.RadiusRules.{raw-in}
-use Rattle.whole.specs.Tab.{any}
+use Rattle.model.proofs.Coordinates.{ranged-coordinates}
 use Rattle.model.proofs.Laws.{Laws, within, same-next, rows-in, with-box, no-verdict}
-use Rattle.model.specs.Ranged as Ranged
-use Rattle.rational.specs.Sum as Sum
 
 pub laws : Laws rangedStep
-unfolding meaning coordinatesAfter markAfter valuesAfter move offsetLimit ruled withValues holdsAt within any Ranged.rangedStep gainingStep givenStep
+unfolding meaning coordinatesAfter markAfter valuesAfter move offsetLimit ruled withValues holdsAt within any
+    Ranged.rangedStep gainingStep givenStep
 laws = record {
   leaves = λ b next s l h p.
       let r = rows-in b (p .not-at 4) in

@@ -1,27 +1,27 @@
--- The laws of: reduction to fewer terms and generators.
+-- The laws of a reduction.
 use mathlib.Core.Path.{refl, sym}
 use mathlib.Core.Bool.{true≢false}
 use native.Mathlib.Nat.{add-zero}
 use native.Mathlib.Omega.{arith}
-use lib.Dec.{ltb}
 use borrow.Author.Tests.{ltb-false}
+use lib.Dec.{ltb}
+use Rattle.whole.specs.Tab.{any}
+use Rattle.rational.specs.Sum as Sum
 use Rattle.model.specs.Limits.{maxTerms, maxGenerators, standardWeights}
 use Rattle.model.specs.Operations.{reduce}
 use Rattle.model.specs.Body.{termLimit, generatorLimit}
 use Rattle.model.specs.Field.{reduction, meaning}
 use Rattle.model.specs.Motion.{offsetLimit, move, withValues, valuesAfter, markAfter}
-use Rattle.model.specs.Origin.{ruled}
 use Rattle.model.specs.Promised.{coordinatesAfter}
+use Rattle.model.specs.Origin.{ruled}
 use Rattle.model.proofs.Tests.{or-false}
-use Rattle.model.proofs.Held.{reduce-held}
-use Rattle.model.proofs.FinishCovers.{finish-covers}
 use Rattle.model.proofs.Folding.{folded-at, finish-radius}
+use Rattle.model.proofs.Held.{reduce-held}
+use Rattle.model.proofs.Accepted.{holdsAt}
+use Rattle.model.proofs.FinishCovers.{finish-covers}
 use Rattle.model.proofs.RadiusRules.{reduced-in}
 use Rattle.model.proofs.Coordinates.{reduced-coordinates}
-use Rattle.model.proofs.Accepted.{holdsAt}
-use Rattle.whole.specs.Tab.{any}
 use Rattle.model.proofs.Laws.{Laws, within, same-next, with-box, no-verdict}
-use Rattle.rational.specs.Sum as Sum
 
 pub laws : Laws reduction
 unfolding meaning coordinatesAfter markAfter valuesAfter move offsetLimit ruled withValues holdsAt within any reduce

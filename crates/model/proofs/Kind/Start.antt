@@ -1,23 +1,23 @@
--- The laws of: the start set.
+-- The laws of the start set.
 use mathlib.Core.Path.{refl, sym, ap}
 use mathlib.Core.Bool.{true≢false}
 use native.Mathlib.Nat.{add-zero}
 use native.Mathlib.Omega.{arith}
+use Rattle.whole.specs.Tab.{any}
+use Rattle.rational.specs.Sum as Sum
 use Rattle.rational.specs.Sum.{All-imp}
 use Rattle.model.specs.Body.{givenSet}
-use Rattle.model.specs.Field.{start, meaning}
 use Rattle.model.specs.Points.{Vector}
+use Rattle.model.specs.Field.{start, meaning}
 use Rattle.model.specs.Motion.{offsetLimit, move, withValues, valuesAfter, markAfter}
-use Rattle.model.specs.Origin.{ruled}
 use Rattle.model.specs.Promised.{coordinatesAfter}
+use Rattle.model.specs.Origin.{ruled}
+use Rattle.model.proofs.Folding.{given-none}
 use Rattle.model.proofs.Held.{held}
 use Rattle.model.proofs.Accepted.{holdsAt, given-dimension, given-valid}
 use Rattle.model.proofs.Values.{same-values}
-use Rattle.model.proofs.Folding.{given-none}
 use Rattle.model.proofs.RadiusRules.{given-radius}
-use Rattle.whole.specs.Tab.{any}
 use Rattle.model.proofs.Laws.{Laws, within, same-next, file-in, with-box, no-verdict, body-point, body-same, file-agrees}
-use Rattle.rational.specs.Sum as Sum
 
 pub laws : Laws start
 unfolding meaning coordinatesAfter markAfter valuesAfter move offsetLimit ruled withValues holdsAt within any

@@ -1,26 +1,26 @@
--- The laws of: the polynomial step.
+-- The laws of the polynomial step.
 use mathlib.Core.Path.{refl, sym}
 use mathlib.Core.Bool.{true≢false}
 use native.Mathlib.Nat.{add-zero}
 use native.Mathlib.Omega.{arith}
+use Rattle.whole.specs.Tab.{any}
+use Rattle.rational.specs.Sum as Sum
 use Rattle.model.specs.Limits.{maxTerms, maxGenerators, standardWeights}
+use Rattle.model.specs.Step as Step
 use Rattle.model.specs.Step.{raw, rounded}
 use Rattle.model.specs.Body.{givenStep}
 use Rattle.model.specs.Field.{step, meaning}
 use Rattle.model.specs.Motion.{offsetLimit, move, withValues, valuesAfter, markAfter}
-use Rattle.model.specs.Origin.{ruled}
 use Rattle.model.specs.Promised.{coordinatesAfter}
+use Rattle.model.specs.Origin.{ruled}
+use Rattle.model.proofs.Folding.{finished-at, rounded-anew}
 use Rattle.model.proofs.Held.{step-held}
-use Rattle.model.proofs.Coordinates.{step-coordinates}
 use Rattle.model.proofs.Accepted.{holdsAt, same}
 use Rattle.model.proofs.FinishCovers.{finish-covers}
 use Rattle.model.proofs.StepPoint.{step-point}
-use Rattle.model.proofs.Folding.{finished-at, rounded-anew}
 use Rattle.model.proofs.RadiusRules.{raw-remainder, settled-radius, finished-radius, finished-in, rounded-in, raw-in}
-use Rattle.whole.specs.Tab.{any}
+use Rattle.model.proofs.Coordinates.{step-coordinates}
 use Rattle.model.proofs.Laws.{Laws, within, same-next, rows-in, with-box, no-verdict}
-use Rattle.model.specs.Step as Step
-use Rattle.rational.specs.Sum as Sum
 
 pub laws : Laws step
 unfolding meaning coordinatesAfter markAfter valuesAfter move offsetLimit ruled withValues holdsAt within any Step.step givenStep

@@ -1,27 +1,27 @@
--- The laws of: the sum with a set that shares its identifiers.
+-- The laws of the tied sum.
 use mathlib.Core.Path.{refl, sym, _∙_, ap}
 use mathlib.Core.Bool.{true≢false}
 use native.Mathlib.Nat.{add-zero}
 use native.Mathlib.Omega.{arith}
+use Rattle.whole.specs.Tab.{any}
+use Rattle.rational.specs.Sum as Sum
+use Rattle.rational.specs.Rational.{_+ℚ_}
 use Rattle.model.specs.Limits.{standardWeights}
 use Rattle.model.specs.Operations.{joined, tiedSum}
 use Rattle.model.specs.Body.{givenSet}
-use Rattle.model.specs.Field.{tied, meaning}
 use Rattle.model.specs.Points.{Vector}
-use Rattle.rational.specs.Rational.{_+ℚ_}
+use Rattle.model.specs.Field.{tied, meaning}
 use Rattle.model.specs.Motion.{offsetLimit, move, withValues, valuesAfter, markAfter}
-use Rattle.model.specs.Origin.{ruled}
 use Rattle.model.specs.Promised.{coordinatesAfter}
+use Rattle.model.specs.Origin.{ruled}
+use Rattle.model.proofs.Folding.{finished-at, sum-goes-on, given-none}
 use Rattle.model.proofs.Held.{valid-ready, sum-held}
-use Rattle.model.proofs.Coordinates.{tied-coordinates}
 use Rattle.model.proofs.Accepted.{holdsAt, same, given-dimension, given-valid}
 use Rattle.model.proofs.Values.{same-values}
 use Rattle.model.proofs.SumPoints.{tied-point}
-use Rattle.model.proofs.Folding.{finished-at, sum-goes-on, given-none}
 use Rattle.model.proofs.RadiusRules.{given-radius, joined-radius, finished-radius, finished-in, joined-in}
-use Rattle.whole.specs.Tab.{any}
+use Rattle.model.proofs.Coordinates.{tied-coordinates}
 use Rattle.model.proofs.Laws.{Laws, within, same-next, file-in, with-box, no-verdict, body-point, body-same, file-agrees, rising}
-use Rattle.rational.specs.Sum as Sum
 
 pub laws : Laws tied
 unfolding meaning coordinatesAfter markAfter valuesAfter move offsetLimit ruled withValues holdsAt within any tiedSum

@@ -4,13 +4,13 @@ use mathlib.Core.Bool.{true, false}
 use Prim.Native.Nat.{_+_}
 use Rattle.model.specs.Limits.{standardWeights}
 use Rattle.model.specs.Set.{radius, independentSize}
+use Rattle.model.specs.Step as Step
 use Rattle.model.specs.Step.{inexactAt}
+use Rattle.model.specs.Hull as Hull
 use Rattle.model.specs.Hull.{larger, blended}
 use Rattle.model.specs.Body.{dimension, givenSet}
 use Rattle.model.specs.Moving.{bodyPoint, between}
 use Rattle.model.specs.Described.{differs, ofSet, tooManyBlended, foldsOf, halfOf, Described}
-use Rattle.model.specs.Step as Step
-use Rattle.model.specs.Hull as Hull
 
 abbrev pub kind : Described
 kind = record {

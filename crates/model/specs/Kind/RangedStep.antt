@@ -3,13 +3,13 @@ use mathlib.Core.List.{[]}
 use mathlib.Core.Bool.{true, _||_}
 use Prim.Native.Nat.{_+_}
 use Rattle.model.specs.Limits.{standardWeights}
+use Rattle.model.specs.Step as Step
 use Rattle.model.specs.Step.{raw, remainder, inexactAt}
+use Rattle.model.specs.Ranged as Ranged
 use Rattle.model.specs.Ranged.{gain}
 use Rattle.model.specs.Body.{stepRows, stepColumns, givenStep, rangedLength, givenWidths}
 use Rattle.model.specs.Moving.{imageBy}
 use Rattle.model.specs.Described.{badStepRange, badWidthRange, negativeWidth, ofStepBody, foldsOf, unitsOf, halfOf, Described}
-use Rattle.model.specs.Step as Step
-use Rattle.model.specs.Ranged as Ranged
 
 abbrev pub kind : Described
 kind = record {

@@ -3,11 +3,11 @@ use mathlib.Core.List.{[]}
 use mathlib.Core.Bool.{true}
 use Prim.Native.Nat.{_+_}
 use Rattle.model.specs.Limits.{standardWeights}
+use Rattle.model.specs.Step as Step
 use Rattle.model.specs.Step.{raw, remainder, inexactAt}
 use Rattle.model.specs.Body.{stepRows, stepLength, givenStep}
 use Rattle.model.specs.Moving.{image}
 use Rattle.model.specs.Described.{badStepRange, ofStepBody, foldsOf, unitsOf, halfOf, Described}
-use Rattle.model.specs.Step as Step
 
 abbrev pub kind : Described
 kind = record {

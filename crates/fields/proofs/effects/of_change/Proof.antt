@@ -20,7 +20,8 @@ returns c =
 returns-2 : tie.Need-returns-2
 returns-2 c =
     let a = c .before .before .before .args in
-    ap (λ (o : Examined). changedBy o (a .first) (a .next) (a .after) (a .r .set) (a .anew) (a .works)) (sym (c .before .enum-told .given .1))
+    ap (λ (o : Examined). changedBy o (a .first) (a .next) (a .after) (a .r .set) (a .anew) (a .works))
+    (sym (c .before .enum-told .given .1))
 
 pub of-change-spec : {M : Type 1} → statement M
 of-change-spec = tie.close (tie.spec enum-known-o enum-told returns returns-2)
