@@ -12,6 +12,7 @@ pub mod follow;
 pub mod fraction;
 pub mod generate;
 pub mod hull;
+pub mod kind;
 pub mod number;
 pub mod plan;
 pub mod program;

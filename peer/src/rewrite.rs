@@ -1,7 +1,7 @@
 //! Stored files without empty disturbances (document 02, A.5). Fields are told apart by their headers alone, whatever
 //! their tags are, so that a file which no run accepts is rewritten too.
 
-use crate::field::{whole, HEADER};
+use crate::field::{whole, Tag, HEADER};
 use crate::set::MAX_DIMENSION;
 
 /// The bytes without each whole field that is an empty disturbance. From the first field on that isn't whole all of them
@@ -25,7 +25,8 @@ pub fn is_empty_disturbance(tag: u8, body: &[u8]) -> bool {
     match body {
         [n, radii @ ..] => {
             let n = usize::from(*n);
-            tag == 3 && (1..=MAX_DIMENSION).contains(&n) && radii.len() == 4 * n && radii.iter().all(|byte| *byte == 0)
+            let fits = (1..=MAX_DIMENSION).contains(&n) && radii.len() == 4 * n;
+            tag == Tag::Disturbance as u8 && fits && radii.iter().all(|byte| *byte == 0)
         }
         [] => false,
     }

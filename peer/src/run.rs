@@ -1,18 +1,13 @@
 //! The run: fields read one after the other, each accepted or refused; the first refusal ends it.
 
-use crate::bounds::{bounding_box, is_safe};
-use crate::field::{count_bytes, counts_fit, decode, expected_length, is_known_tag, whole, Field, HEADER};
-use crate::finish::{finish, Finished, Folds};
-use crate::hull::hull;
-use crate::set::{all_given, Set};
-use crate::step::CONSTANT_LIMIT;
-use crate::sums::{add, independent_sum, tied_sum};
+use crate::field::{whole, Field, Tag, HEADER};
+use crate::finish::{Finished, Folds};
+use crate::set::Set;
 
 /// The first identifier that no file can name.
 pub const FIRST_MARK: i128 = 65_536;
 /// How many fields may follow the start set.
 pub const MAX_FIELDS: usize = 4_096;
-pub const MAX_DISTURBANCE: i128 = CONSTANT_LIMIT;
 
 /// Why a field is refused, with the papers' number; 11 and 13 belong to a library's calls.
 #[derive(Clone, Copy, Debug, PartialEq, Eq, PartialOrd, Ord)]
@@ -29,6 +24,17 @@ pub enum Cause {
     ResultSpan = 10,
     TooManyFields = 12,
     EmptyDisturbance = 14,
+}
+
+impl Cause {
+    /// The refusal, unless what it is about holds.
+    pub fn unless(self, holds: bool) -> Result<(), Cause> {
+        if holds {
+            Ok(())
+        } else {
+            Err(self)
+        }
+    }
 }
 
 #[derive(Clone, Copy, Debug, PartialEq, Eq)]
@@ -56,6 +62,11 @@ pub struct State {
 impl State {
     pub fn empty() -> State {
         State { set: None, mark: FIRST_MARK }
+    }
+
+    /// The set, which every field but the first needs.
+    pub fn current(&self) -> Result<&Set, Cause> {
+        self.set.as_ref().ok_or(Cause::Tag)
     }
 }
 
@@ -92,10 +103,7 @@ impl<'a> Run<'a> {
         let rest = &self.input[self.place..];
         let (field, length) = read_field(rest, self.number)?;
         let (finished, mark) = apply(&field, &self.state)?;
-        let outcome = match &field {
-            Field::Check(region) => Outcome::Verdict { safe: is_safe(&finished.set, region) },
-            _ => Outcome::Box(bounding_box(&finished.set)),
-        };
+        let outcome = field.answer(&finished.set);
         self.state = State { set: Some(finished.set.clone()), mark };
         self.place += length;
         let number = self.number;
@@ -123,88 +131,23 @@ impl Iterator for Run<'_> {
 
 /// The field at the front of the input and its length in bytes, or one of 12, 2, 1, 3, 4, 3.
 pub fn read_field(input: &[u8], number: usize) -> Result<(Field, usize), Cause> {
-    if number > MAX_FIELDS {
-        return Err(Cause::TooManyFields);
-    }
-    let tag = *input.first().ok_or(Cause::InputEnds)?;
-    if !is_known_tag(tag) || (tag == 1) != (number == 0) {
-        return Err(Cause::Tag);
-    }
+    Cause::TooManyFields.unless(number <= MAX_FIELDS)?;
+    let tag = Tag::of(*input.first().ok_or(Cause::InputEnds)?).ok_or(Cause::Tag)?;
+    Cause::Tag.unless((tag == Tag::Start) == (number == 0))?;
     let (_, body) = whole(input).ok_or(Cause::InputEnds)?;
-    if body.len() < count_bytes(tag) {
-        return Err(Cause::Length);
-    }
-    if !counts_fit(tag, body) {
-        return Err(Cause::Count);
-    }
-    if body.len() != expected_length(tag, body) {
-        return Err(Cause::Length);
-    }
-    Ok((decode(tag, body), HEADER + body.len()))
+    Cause::Length.unless(body.len() >= tag.counts().len())?;
+    Cause::Count.unless(tag.counts_fit(body))?;
+    Cause::Length.unless(body.len() == tag.length(body))?;
+    Ok((tag.decode(body), HEADER + body.len()))
 }
 
 /// The finished set after a field whose counts fit, and the mark, or one of 5 to 10 and 14.
 pub fn apply(field: &Field, state: &State) -> Result<(Finished, i128), Cause> {
     if let (Some(taken), Some(set)) = (field.taken_dimension(), &state.set) {
-        if taken != set.dimension() {
-            return Err(Cause::Dimension);
-        }
+        Cause::Dimension.unless(taken == set.dimension())?;
     }
-    look_at_body(field)?;
-    let set = match (field, &state.set) {
-        (Field::Start(body), None) => return Ok((Finished::as_it_is(body.clone()), state.mark)),
-        (Field::Start(_), Some(_)) | (_, None) => return Err(Cause::Tag),
-        (_, Some(set)) => set,
-    };
-    let mut mark = state.mark;
-    let finished = match field {
-        Field::Step(step) => step.apply(set),
-        Field::Ranged(ranged) => ranged.apply(set),
-        Field::Disturbance(radii) => {
-            let radius_parts = add(&set.radius_parts, &all_given(radii.iter().copied()));
-            Finished::as_it_is(Set { radius_parts, ..set.clone() })
-        }
-        Field::Independent(body) => {
-            mark += body.identifiers.len() as i128;
-            independent_sum(set, body, state.mark).ok_or(Cause::Factors)?
-        }
-        Field::Tied(body) => tied_sum(set, body).ok_or(Cause::Factors)?,
-        Field::Hull(body) => {
-            mark += 1;
-            hull(set, body, state.mark).ok_or(Cause::Factors)?
-        }
-        Field::Reduce(limits) => finish(set.clone(), *limits),
-        Field::Check(_) | Field::Start(_) => Finished::as_it_is(set.clone()),
-    };
-    if finished.set.is_too_wide() {
-        return Err(Cause::ResultSpan);
-    }
+    field.look()?;
+    let (finished, mark) = field.advance(state)?;
+    Cause::ResultSpan.unless(!finished.set.is_too_wide())?;
     Ok((finished, mark))
-}
-
-/// 6, 14, 7 and 8: what a body can have wrong by itself.
-fn look_at_body(field: &Field) -> Result<(), Cause> {
-    let in_range = match field {
-        Field::Start(body) | Field::Independent(body) | Field::Tied(body) | Field::Hull(body) => body.is_in_range(),
-        Field::Step(step) => step.is_in_range(),
-        Field::Ranged(ranged) => ranged.is_in_range(),
-        Field::Disturbance(radii) => radii.iter().all(|r| (0..=MAX_DISTURBANCE).contains(r)),
-        Field::Check(region) => region.iter().all(|halfspace| halfspace.is_in_range()),
-        Field::Reduce(_) => true,
-    };
-    if !in_range {
-        return Err(Cause::Range);
-    }
-    if matches!(field, Field::Disturbance(radii) if radii.iter().all(|r| *r == 0)) {
-        return Err(Cause::EmptyDisturbance);
-    }
-    if let Field::Start(body) | Field::Independent(body) | Field::Tied(body) | Field::Hull(body) = field {
-        if !body.keeps_rules() {
-            return Err(Cause::Rule);
-        }
-        if body.is_too_wide() {
-            return Err(Cause::Span);
-        }
-    }
-    Ok(())
 }

@@ -3,7 +3,7 @@
 
 use std::fmt::Write;
 
-use crate::field::{count_bytes, counts_fit, decode, expected_length, is_known_tag, whole, Field, HEADER};
+use crate::field::{whole, Field, Tag, HEADER};
 use crate::step::{Ranged, Step};
 use crate::text::{body_lines, joined, labelled};
 
@@ -36,11 +36,11 @@ pub fn show(input: &[u8]) -> String {
 /// The field at the front, if it is whole, with counts within limits and the length they give.
 fn well_formed(input: &[u8]) -> Option<(Field, usize)> {
     let (tag, body) = whole(input)?;
-    let fits = is_known_tag(tag)
-        && body.len() >= count_bytes(tag)
-        && (tag == 6 || counts_fit(tag, body))
-        && body.len() == expected_length(tag, body);
-    fits.then(|| (decode(tag, body), HEADER + body.len()))
+    let tag = Tag::of(tag)?;
+    let fits = body.len() >= tag.counts().len()
+        && (tag == Tag::Reduce || tag.counts_fit(body))
+        && body.len() == tag.length(body);
+    fits.then(|| (tag.decode(body), HEADER + body.len()))
 }
 
 fn block(field: &Field) -> (String, Vec<String>) {

@@ -4,8 +4,9 @@ use super::faults::{body_of, break_count, break_length, break_rule, break_tag, o
 use super::plain::{empty_disturbance, plain_set, unchanged, zero_ranged, zero_step};
 use super::valid::{next_field, prefix, Builder, MIXED, WIDE};
 use crate::field::Field;
+use crate::kind::MAX_DISTURBANCE;
 use crate::random::Random;
-use crate::run::{State, MAX_DISTURBANCE, MAX_FIELDS};
+use crate::run::{State, MAX_FIELDS};
 use crate::set::{Set, MAX_DIMENSION, MAX_FACTORS, SPAN_LIMIT};
 use crate::step::{CONSTANT_LIMIT, ENTRY_LIMIT, UNIT};
 

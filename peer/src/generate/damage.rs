@@ -1,7 +1,7 @@
 //! Files that went wrong on the way: cut, with bytes changed, or nothing but noise.
 
 use super::valid::{prefix, run, MIXED};
-use crate::field::{count_bytes, expected_length};
+use crate::field::Tag;
 use crate::random::Random;
 
 pub fn cut(random: &mut Random) -> Vec<u8> {
@@ -39,16 +39,16 @@ pub fn bytes(random: &mut Random) -> Vec<u8> {
     }
     let mut bytes = Vec::new();
     for number in 0..1 + random.below(4) {
-        let tag = if number == 0 { 1 } else { 2 + random.below(8) as u8 };
+        let tag = if number == 0 { Tag::Start } else { Tag::ALL[1 + random.below(8)] };
         let mut body = vec![1 + random.below(3) as u8];
-        body.extend((1..count_bytes(tag)).map(|_| random.below(3) as u8));
+        body.extend((1..tag.counts().len()).map(|_| random.below(3) as u8));
         if random.once_in(3) {
             body.extend(noise(random, 60));
         } else {
-            let length = expected_length(tag, &body);
+            let length = tag.length(&body);
             body.extend((body.len()..length).map(|i| if i % 4 < 2 { random.below(3) as u8 } else { 0 }));
         }
-        bytes.push(tag);
+        bytes.push(tag as u8);
         bytes.extend((body.len() as u16).to_le_bytes());
         bytes.extend(body);
     }

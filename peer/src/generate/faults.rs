@@ -2,8 +2,8 @@
 
 use crate::bounds::{BOUND_LIMIT, MAX_HALFSPACES};
 use crate::field::{Field, HEADER};
+use crate::kind::MAX_DISTURBANCE;
 use crate::random::Random;
-use crate::run::MAX_DISTURBANCE;
 use crate::set::{Set, MAX_DIMENSION, MAX_FACTORS, MAX_FILE_IDENTIFIER, MAX_GENERATORS, MAX_TERMS, SPAN_LIMIT};
 use crate::step::{HalfWidths, Ranged, Step, CONSTANT_LIMIT, ENTRY_LIMIT};
 

@@ -6,8 +6,9 @@ use super::plain::{plain_set, unchanged, zero_ranged, zero_step};
 use crate::bounds::{Halfspace, BOUND_LIMIT, MAX_HALFSPACES};
 use crate::field::Field;
 use crate::finish::Limits;
+use crate::kind::MAX_DISTURBANCE;
 use crate::random::Random;
-use crate::run::{MAX_DISTURBANCE, MAX_FIELDS};
+use crate::run::MAX_FIELDS;
 use crate::set::{
     all_given, Set, Term, MAX_DIMENSION, MAX_EXPONENT, MAX_FACTORS, MAX_FILE_IDENTIFIER, MAX_GENERATORS, MAX_TERMS,
     SPAN_LIMIT,

@@ -1,0 +1,56 @@
+//! The check against an unsafe region, whose halfspaces are its body.
+
+use super::bytes::push_words;
+use super::{Body, Counts, Kind, Reader, DIMENSION};
+use crate::bounds::{is_safe, Halfspace, MAX_HALFSPACES};
+use crate::finish::Finished;
+use crate::run::{Cause, Outcome, State};
+use crate::set::Set;
+
+pub struct Check;
+
+impl Kind for Check {
+    type Body = Vec<Halfspace>;
+
+    fn taken_dimension(region: &Vec<Halfspace>) -> Option<usize> {
+        dimension(region)
+    }
+
+    fn advance(_region: &Vec<Halfspace>, state: &State) -> Result<(Finished, i128), Cause> {
+        Ok((Finished::as_it_is(state.current()?.clone()), state.mark))
+    }
+
+    fn answer(region: &Vec<Halfspace>, set: &Set) -> Outcome {
+        Outcome::Verdict { safe: is_safe(set, region) }
+    }
+}
+
+impl Body for Vec<Halfspace> {
+    const COUNTS: Counts = &[DIMENSION, 1..=MAX_HALFSPACES as u8];
+
+    fn length(counts: &mut Reader) -> usize {
+        let (n, count) = (counts.count(), counts.count());
+        2 + count * (4 * n + 8)
+    }
+
+    fn decode(bytes: &mut Reader) -> Vec<Halfspace> {
+        let (n, count) = (bytes.count(), bytes.count());
+        (0..count).map(|_| Halfspace { normal: bytes.words(n), bound: bytes.long() }).collect()
+    }
+
+    fn encode(&self, bytes: &mut Vec<u8>) {
+        bytes.extend([dimension(self).unwrap_or(0) as u8, self.len() as u8]);
+        for halfspace in self {
+            push_words(bytes, &halfspace.normal);
+            bytes.extend((halfspace.bound as i64).to_le_bytes());
+        }
+    }
+
+    fn look(&self) -> Result<(), Cause> {
+        Cause::Range.unless(self.iter().all(Halfspace::is_in_range))
+    }
+}
+
+fn dimension(region: &[Halfspace]) -> Option<usize> {
+    region.first().map(|halfspace| halfspace.normal.len())
+}

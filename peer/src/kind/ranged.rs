@@ -1,0 +1,46 @@
+//! The ranged step: a step's body, then a half-width for each entry of A and Q.
+
+use super::bytes::push_entries;
+use super::step::entries_length;
+use super::{Body, Counts, Kind, Reader};
+use crate::finish::Finished;
+use crate::run::{Cause, State};
+use crate::step::{HalfWidths, Ranged, Step};
+
+pub struct RangedStep;
+
+impl Kind for RangedStep {
+    type Body = Ranged;
+
+    fn taken_dimension(ranged: &Ranged) -> Option<usize> {
+        Some(ranged.step.from_dimension())
+    }
+
+    fn advance(ranged: &Ranged, state: &State) -> Result<(Finished, i128), Cause> {
+        Ok((ranged.apply(state.current()?), state.mark))
+    }
+}
+
+impl Body for Ranged {
+    const COUNTS: Counts = Step::COUNTS;
+
+    fn length(counts: &mut Reader) -> usize {
+        let (m, n) = (counts.count(), counts.count());
+        2 + 4 * m + 2 * entries_length(m, n)
+    }
+
+    fn decode(bytes: &mut Reader) -> Ranged {
+        let step = Step::decode(bytes);
+        let (m, n) = (step.constant.len(), step.from_dimension());
+        Ranged { step, half_widths: HalfWidths { matrix: bytes.rows(m, n), forms: bytes.forms(m, n) } }
+    }
+
+    fn encode(&self, bytes: &mut Vec<u8>) {
+        self.step.encode(bytes);
+        push_entries(bytes, &self.half_widths.matrix, &self.half_widths.forms);
+    }
+
+    fn look(&self) -> Result<(), Cause> {
+        Cause::Range.unless(self.is_in_range())
+    }
+}

@@ -1,0 +1,40 @@
+//! The reduction to so many terms and generators.
+
+use super::{Body, Counts, Kind, Reader};
+use crate::finish::{finish, Finished, Limits};
+use crate::run::{Cause, State};
+use crate::set::{MAX_GENERATORS, MAX_TERMS};
+
+pub struct Reduction;
+
+impl Kind for Reduction {
+    type Body = Limits;
+
+    fn taken_dimension(_limits: &Limits) -> Option<usize> {
+        None
+    }
+
+    fn advance(limits: &Limits, state: &State) -> Result<(Finished, i128), Cause> {
+        Ok((finish(state.current()?.clone(), *limits), state.mark))
+    }
+}
+
+impl Body for Limits {
+    const COUNTS: Counts = &[0..=MAX_TERMS as u8, 0..=MAX_GENERATORS as u8];
+
+    fn length(_counts: &mut Reader) -> usize {
+        2
+    }
+
+    fn decode(bytes: &mut Reader) -> Limits {
+        Limits { terms: bytes.count(), generators: bytes.count() }
+    }
+
+    fn encode(&self, bytes: &mut Vec<u8>) {
+        bytes.extend([self.terms as u8, self.generators as u8]);
+    }
+
+    fn look(&self) -> Result<(), Cause> {
+        Ok(())
+    }
+}

@@ -1,0 +1,49 @@
+//! A set as a body, which a start set, the sums and the hull share.
+
+use super::bytes::push_words;
+use super::{Body, Counts, Reader, DIMENSION};
+use crate::run::Cause;
+use crate::set::{all_given, Set, Term, MAX_FACTORS, MAX_GENERATORS, MAX_TERMS};
+
+impl Body for Set {
+    const COUNTS: Counts = &[DIMENSION, 0..=MAX_FACTORS as u8, 0..=MAX_TERMS as u8, 0..=MAX_GENERATORS as u8];
+
+    fn length(counts: &mut Reader) -> usize {
+        let (n, p, h, q) = (counts.count(), counts.count(), counts.count(), counts.count());
+        4 + 4 * p + 4 * n + h * (p + 4 * n) + 4 * n * q + 4 * n
+    }
+
+    fn decode(bytes: &mut Reader) -> Set {
+        let (n, p, h, q) = (bytes.count(), bytes.count(), bytes.count(), bytes.count());
+        let term = |bytes: &mut Reader| Term {
+            exponents: (0..p).map(|_| bytes.count() as u32).collect(),
+            coefficients: bytes.words(n),
+        };
+        Set {
+            identifiers: bytes.words(p),
+            centre: bytes.words(n),
+            terms: (0..h).map(|_| term(bytes)).collect(),
+            generators: (0..q).map(|_| bytes.words(n)).collect(),
+            radius_parts: all_given(bytes.words(n)),
+        }
+    }
+
+    fn encode(&self, bytes: &mut Vec<u8>) {
+        let counts = [self.dimension(), self.identifiers.len(), self.terms.len(), self.generators.len()];
+        bytes.extend(counts.map(|count| count as u8));
+        push_words(bytes, &self.identifiers);
+        push_words(bytes, &self.centre);
+        for term in &self.terms {
+            bytes.extend(term.exponents.iter().map(|e| *e as u8));
+            push_words(bytes, &term.coefficients);
+        }
+        self.generators.iter().for_each(|generator| push_words(bytes, generator));
+        push_words(bytes, &self.radii());
+    }
+
+    fn look(&self) -> Result<(), Cause> {
+        Cause::Range.unless(self.is_in_range())?;
+        Cause::Rule.unless(self.keeps_rules())?;
+        Cause::Span.unless(!self.is_too_wide())
+    }
+}
