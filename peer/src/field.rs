@@ -31,12 +31,20 @@ macro_rules! kinds {
                 match self { $(Tag::$name => <$body>::COUNTS,)* }
             }
 
+            pub fn can_be_stated(self, body: &[u8]) -> bool {
+                match self { $(Tag::$name => <$body>::can_be_stated(body),)* }
+            }
+
             pub fn length(self, body: &[u8]) -> usize {
                 match self { $(Tag::$name => <$body>::length(&mut Reader::new(body)),)* }
             }
 
             pub fn decode(self, body: &[u8]) -> Field {
                 match self { $(Tag::$name => Field::$name(<$body>::decode(&mut Reader::new(body))),)* }
+            }
+
+            pub fn word(self) -> &'static str {
+                match self { $(Tag::$name => <$kind>::WORD,)* }
             }
         }
 
@@ -59,6 +67,10 @@ macro_rules! kinds {
 
             pub fn answer(&self, set: &Set) -> Outcome {
                 match self { $(Field::$name(body) => <$kind>::answer(body, set),)* }
+            }
+
+            pub fn block(&self) -> (String, Vec<String>) {
+                match self { $(Field::$name(body) => <$kind>::block(body),)* }
             }
 
             fn push_body(&self, bytes: &mut Vec<u8>) {

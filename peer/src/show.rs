@@ -4,8 +4,7 @@
 use std::fmt::Write;
 
 use crate::field::{whole, Field, Tag, HEADER};
-use crate::step::{Ranged, Step};
-use crate::text::{body_lines, joined, labelled};
+use crate::text::joined;
 
 const RAW_BYTES_A_LINE: usize = 24;
 
@@ -14,7 +13,7 @@ pub fn show(input: &[u8]) -> String {
     let mut place = 0;
     let mut number = 0;
     while let Some((field, length)) = well_formed(&input[place..]) {
-        let (head, parts) = block(&field);
+        let (head, parts) = field.block();
         // Writing to a string cannot fail.
         let _ = writeln!(text, "{head}  # field {number}, byte {place}");
         for part in parts {
@@ -33,52 +32,10 @@ pub fn show(input: &[u8]) -> String {
     text
 }
 
-/// The field at the front, if it is whole, with counts within limits and the length they give.
+/// The field at the front, if it is whole, with counts that a plan can state and the length they give.
 fn well_formed(input: &[u8]) -> Option<(Field, usize)> {
     let (tag, body) = whole(input)?;
     let tag = Tag::of(tag)?;
-    let fits = body.len() >= tag.counts().len()
-        && (tag == Tag::Reduce || tag.counts_fit(body))
-        && body.len() == tag.length(body);
+    let fits = body.len() >= tag.counts().len() && tag.can_be_stated(body) && body.len() == tag.length(body);
     fits.then(|| (tag.decode(body), HEADER + body.len()))
-}
-
-fn block(field: &Field) -> (String, Vec<String>) {
-    match field {
-        Field::Start(set) => (format!("start {}", set.dimension()), body_lines(set)),
-        Field::Independent(set) => (format!("independent {}", set.dimension()), body_lines(set)),
-        Field::Tied(set) => (format!("tied {}", set.dimension()), body_lines(set)),
-        Field::Hull(set) => (format!("hull {}", set.dimension()), body_lines(set)),
-        Field::Step(step) => step_block("step", step),
-        Field::Ranged(Ranged { step, half_widths }) => {
-            let (head, mut parts) = step_block("ranged", step);
-            parts.push(format!("A+- {}", rows(&half_widths.matrix)));
-            parts.extend(form_lines("Q+-", &half_widths.forms));
-            (head, parts)
-        }
-        Field::Disturbance(radii) => (format!("disturbance {}", radii.len()), vec![labelled("radii", radii)]),
-        Field::Reduce(limits) => (format!("reduce {} {}", limits.terms, limits.generators), Vec::new()),
-        Field::Check(region) => {
-            let halfspace =
-                |h: &crate::bounds::Halfspace| format!("{} : {}", labelled("halfspace", &h.normal), h.bound);
-            let dimension = field.taken_dimension().unwrap_or(0);
-            (format!("check {dimension}"), region.iter().map(halfspace).collect())
-        }
-    }
-}
-
-fn step_block(kind: &str, step: &Step) -> (String, Vec<String>) {
-    let mut parts = vec![labelled("c", &step.constant), format!("A {}", rows(&step.matrix))];
-    parts.extend(form_lines("Q", &step.forms));
-    (format!("{kind} {} from {}", step.constant.len(), step.from_dimension()), parts)
-}
-
-/// A line for each form that isn't all zeros.
-fn form_lines(label: &str, forms: &[Vec<Vec<i128>>]) -> Vec<String> {
-    let line = |(i, form): (usize, &Vec<Vec<i128>>)| format!("{label} {} : {}", i + 1, rows(form));
-    forms.iter().enumerate().filter(|(_, form)| form.iter().flatten().any(|v| *v != 0)).map(line).collect()
-}
-
-fn rows(rows: &[Vec<i128>]) -> String {
-    rows.iter().map(|row| joined(row)).collect::<Vec<_>>().join(" / ")
 }

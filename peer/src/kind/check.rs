@@ -6,11 +6,13 @@ use crate::bounds::{is_safe, Halfspace, MAX_HALFSPACES};
 use crate::finish::Finished;
 use crate::run::{Cause, Outcome, State};
 use crate::set::Set;
+use crate::text::labelled;
 
 pub struct Check;
 
 impl Kind for Check {
     type Body = Vec<Halfspace>;
+    const WORD: &'static str = "check";
 
     fn taken_dimension(region: &Vec<Halfspace>) -> Option<usize> {
         dimension(region)
@@ -48,6 +50,11 @@ impl Body for Vec<Halfspace> {
 
     fn look(&self) -> Result<(), Cause> {
         Cause::Range.unless(self.iter().all(Halfspace::is_in_range))
+    }
+
+    fn text(&self) -> (String, Vec<String>) {
+        let line = |h: &Halfspace| format!("{} : {}", labelled("halfspace", &h.normal), h.bound);
+        (dimension(self).unwrap_or(0).to_string(), self.iter().map(line).collect())
     }
 }
 

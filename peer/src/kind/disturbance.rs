@@ -7,6 +7,7 @@ use crate::run::{Cause, State};
 use crate::set::{all_given, Set};
 use crate::step::CONSTANT_LIMIT;
 use crate::sums::add;
+use crate::text::labelled;
 
 pub const MAX_DISTURBANCE: i128 = CONSTANT_LIMIT;
 
@@ -14,6 +15,7 @@ pub struct Disturbance;
 
 impl Kind for Disturbance {
     type Body = Vec<i128>;
+    const WORD: &'static str = "disturbance";
 
     fn taken_dimension(radii: &Vec<i128>) -> Option<usize> {
         Some(radii.len())
@@ -46,5 +48,9 @@ impl Body for Vec<i128> {
     fn look(&self) -> Result<(), Cause> {
         Cause::Range.unless(self.iter().all(|r| (0..=MAX_DISTURBANCE).contains(r)))?;
         Cause::EmptyDisturbance.unless(self.iter().any(|r| *r != 0))
+    }
+
+    fn text(&self) -> (String, Vec<String>) {
+        (self.len().to_string(), vec![labelled("radii", self)])
     }
 }

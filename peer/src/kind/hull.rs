@@ -10,6 +10,7 @@ pub struct Hull;
 
 impl Kind for Hull {
     type Body = Set;
+    const WORD: &'static str = "hull";
 
     fn taken_dimension(body: &Set) -> Option<usize> {
         Some(body.dimension())

@@ -10,6 +10,7 @@ pub struct IndependentSum;
 
 impl Kind for IndependentSum {
     type Body = Set;
+    const WORD: &'static str = "independent";
 
     fn taken_dimension(body: &Set) -> Option<usize> {
         Some(body.dimension())

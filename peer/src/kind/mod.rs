@@ -50,11 +50,21 @@ pub trait Body: Sized {
 
     /// 6, 14, 7 and 8: what it can have wrong by itself.
     fn look(&self) -> Result<(), Cause>;
+
+    /// Whether a plan can state these counts.
+    fn can_be_stated(counts: &[u8]) -> bool {
+        counts_fit(Self::COUNTS, counts)
+    }
+
+    /// What stands after its word in a plan, and the lines under that.
+    fn text(&self) -> (String, Vec<String>);
 }
 
 /// What a field does with its body.
 pub trait Kind {
     type Body: Body;
+    /// What its block in a plan begins with.
+    const WORD: &'static str;
 
     /// The dimension that the current set must have; none where it may have any, or where there is no set yet.
     fn taken_dimension(body: &Self::Body) -> Option<usize>;
@@ -66,6 +76,12 @@ pub trait Kind {
     /// What it says of the set after it: the box, unless the kind has an answer of its own.
     fn answer(_body: &Self::Body, set: &Set) -> Outcome {
         Outcome::Box(bounding_box(set))
+    }
+
+    /// Its block in a plan.
+    fn block(body: &Self::Body) -> (String, Vec<String>) {
+        let (head, parts) = body.text();
+        (format!("{} {head}", Self::WORD), parts)
     }
 }
 

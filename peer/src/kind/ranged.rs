@@ -1,7 +1,7 @@
 //! The ranged step: a step's body, then a half-width for each entry of A and Q.
 
 use super::bytes::push_entries;
-use super::step::entries_length;
+use super::step::{entries_length, entry_lines};
 use super::{Body, Counts, Kind, Reader};
 use crate::finish::Finished;
 use crate::run::{Cause, State};
@@ -11,6 +11,7 @@ pub struct RangedStep;
 
 impl Kind for RangedStep {
     type Body = Ranged;
+    const WORD: &'static str = "ranged";
 
     fn taken_dimension(ranged: &Ranged) -> Option<usize> {
         Some(ranged.step.from_dimension())
@@ -42,5 +43,11 @@ impl Body for Ranged {
 
     fn look(&self) -> Result<(), Cause> {
         Cause::Range.unless(self.is_in_range())
+    }
+
+    fn text(&self) -> (String, Vec<String>) {
+        let (head, mut parts) = self.step.text();
+        parts.extend(entry_lines("A+-", &self.half_widths.matrix, "Q+-", &self.half_widths.forms));
+        (head, parts)
     }
 }

@@ -9,6 +9,7 @@ pub struct Reduction;
 
 impl Kind for Reduction {
     type Body = Limits;
+    const WORD: &'static str = "reduce";
 
     fn taken_dimension(_limits: &Limits) -> Option<usize> {
         None
@@ -36,5 +37,14 @@ impl Body for Limits {
 
     fn look(&self) -> Result<(), Cause> {
         Ok(())
+    }
+
+    /// Any limits can: nothing else in the body hangs on them.
+    fn can_be_stated(_counts: &[u8]) -> bool {
+        true
+    }
+
+    fn text(&self) -> (String, Vec<String>) {
+        (format!("{} {}", self.terms, self.generators), Vec::new())
     }
 }

@@ -4,6 +4,7 @@ use super::bytes::push_words;
 use super::{Body, Counts, Reader, DIMENSION};
 use crate::run::Cause;
 use crate::set::{all_given, Set, Term, MAX_FACTORS, MAX_GENERATORS, MAX_TERMS};
+use crate::text::body_lines;
 
 impl Body for Set {
     const COUNTS: Counts = &[DIMENSION, 0..=MAX_FACTORS as u8, 0..=MAX_TERMS as u8, 0..=MAX_GENERATORS as u8];
@@ -45,5 +46,9 @@ impl Body for Set {
         Cause::Range.unless(self.is_in_range())?;
         Cause::Rule.unless(self.keeps_rules())?;
         Cause::Span.unless(!self.is_too_wide())
+    }
+
+    fn text(&self) -> (String, Vec<String>) {
+        (self.dimension().to_string(), body_lines(self))
     }
 }

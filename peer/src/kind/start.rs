@@ -9,6 +9,7 @@ pub struct StartSet;
 
 impl Kind for StartSet {
     type Body = Set;
+    const WORD: &'static str = "start";
 
     fn taken_dimension(_body: &Set) -> Option<usize> {
         None

@@ -5,11 +5,13 @@ use super::{Body, Counts, Kind, Reader, DIMENSION};
 use crate::finish::Finished;
 use crate::run::{Cause, State};
 use crate::step::Step;
+use crate::text::{joined, labelled};
 
 pub struct PlainStep;
 
 impl Kind for PlainStep {
     type Body = Step;
+    const WORD: &'static str = "step";
 
     fn taken_dimension(step: &Step) -> Option<usize> {
         Some(step.from_dimension())
@@ -42,9 +44,25 @@ impl Body for Step {
     fn look(&self) -> Result<(), Cause> {
         Cause::Range.unless(self.is_in_range())
     }
+
+    fn text(&self) -> (String, Vec<String>) {
+        let mut parts = vec![labelled("c", &self.constant)];
+        parts.extend(entry_lines("A", &self.matrix, "Q", &self.forms));
+        (format!("{} from {}", self.constant.len(), self.from_dimension()), parts)
+    }
 }
 
 /// How many bytes A and Q take, or their half-widths.
 pub fn entries_length(m: usize, n: usize) -> usize {
     4 * (m * n + m * n * n)
+}
+
+/// A line for A, and one for each form that isn't all zeros.
+pub fn entry_lines(a: &str, matrix: &[Vec<i128>], q: &str, forms: &[Vec<Vec<i128>>]) -> Vec<String> {
+    let rows = |rows: &[Vec<i128>]| rows.iter().map(|row| joined(row)).collect::<Vec<_>>().join(" / ");
+    let mut lines = vec![format!("{a} {}", rows(matrix))];
+    for (i, form) in forms.iter().enumerate().filter(|(_, form)| form.iter().flatten().any(|v| *v != 0)) {
+        lines.push(format!("{q} {} : {}", i + 1, rows(form)));
+    }
+    lines
 }

@@ -10,6 +10,7 @@ pub struct TiedSum;
 
 impl Kind for TiedSum {
     type Body = Set;
+    const WORD: &'static str = "tied";
 
     fn taken_dimension(body: &Set) -> Option<usize> {
         Some(body.dimension())
