@@ -2,6 +2,8 @@
 
 use crate::bounds::Halfspace;
 use crate::finish::{Finished, Limits};
+use crate::follow::Motion;
+use crate::fraction::Fraction;
 use crate::kind::{self, counts_fit, Body, Counts, Kind, Reader};
 use crate::run::{Cause, Outcome, State};
 use crate::set::Set;
@@ -67,6 +69,14 @@ macro_rules! kinds {
 
             pub fn answer(&self, set: &Set) -> Outcome {
                 match self { $(Field::$name(body) => <$kind>::answer(body, set),)* }
+            }
+
+            pub fn follow(&self, motion: &mut Motion) {
+                match self { $(Field::$name(body) => <$kind>::follow(body, motion),)* }
+            }
+
+            pub fn excludes(&self, answer: &Outcome, place: &[Fraction]) -> bool {
+                match self { $(Field::$name(body) => <$kind>::excludes(body, answer, place),)* }
             }
 
             pub fn block(&self) -> (String, Vec<String>) {

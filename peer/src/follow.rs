@@ -4,7 +4,7 @@
 use std::collections::BTreeMap;
 use std::fmt;
 
-use crate::bounds::{bounding_box, Halfspace};
+use crate::bounds::bounding_box;
 use crate::field::Field;
 use crate::fraction::{sum, Fraction};
 use crate::random::Random;
@@ -118,48 +118,48 @@ impl Motion {
 
     /// Moves as the field says.
     pub fn accept(&mut self, accepted: &Accepted) {
-        match &accepted.field {
-            Field::Start(body) | Field::Tied(body) => {
-                self.pick_values(body);
-                self.add_body(body, &body.identifiers);
-            }
-            Field::Hull(body) => {
-                self.pick_values(body);
-                let x = std::mem::take(&mut self.place);
-                self.add_body(body, &body.identifiers);
-                let v = self.pick();
-                self.place = blend(&v, &x, &self.place);
-                self.values.insert(self.mark, v);
-                self.mark += 1;
-            }
-            Field::Independent(body) => {
-                let identifiers: Vec<i128> = (self.mark..).take(body.identifiers.len()).collect();
-                for id in &identifiers {
-                    let value = self.pick();
-                    self.values.insert(*id, value);
-                }
-                self.mark += identifiers.len() as i128;
-                self.add_body(body, &identifiers);
-            }
-            Field::Step(step) => self.step(step, &step.exactly()),
-            Field::Ranged(ranged) => self.step(&ranged.step, &ranged.half_widths),
-            Field::Disturbance(radii) => self.add_offsets(radii),
-            Field::Reduce(_) | Field::Check(_) => {}
-        }
+        accepted.field.follow(self);
         self.numbers = accepted.kept.iter().map(|place| self.numbers[*place].clone()).collect();
     }
 
-    /// Values for the body's identifiers that have none yet.
-    fn pick_values(&mut self, body: &Set) {
+    /// Whether the motion is somewhere it can't be if the answer to this field holds; exact.
+    pub fn escape(&self, set: &Set, outcome: &Outcome, field: &Field) -> Option<Escape> {
+        let ends = match outcome {
+            Outcome::Box(ends) => ends.clone(),
+            Outcome::Verdict { .. } => bounding_box(set),
+        };
+        for (i, (low, high)) in ends.into_iter().enumerate() {
+            if self.place[i] < Fraction::from(low) || self.place[i] > Fraction::from(high) {
+                return Some(Escape::Box(i + 1));
+            }
+        }
+        if !self.is_in(set) {
+            return Some(Escape::Set);
+        }
+        field.excludes(outcome, &self.place).then_some(Escape::Safe)
+    }
+
+    /// Adds a point of the body at the values of its identifiers, which are picked where they have none yet.
+    pub fn add_tied(&mut self, body: &Set) {
         for id in &body.identifiers {
             if !self.values.contains_key(id) {
                 let value = self.pick();
                 self.values.insert(*id, value);
             }
         }
+        self.add_body(body, &body.identifiers);
     }
 
-    fn add_body(&mut self, body: &Set, identifiers: &[i128]) {
+    /// The next new identifier, which gets this value.
+    pub fn new_factor(&mut self, value: Fraction) -> i128 {
+        let id = self.mark;
+        self.values.insert(id, value);
+        self.mark += 1;
+        id
+    }
+
+    /// Adds a point of the body with these identifiers in the place of its own; it is the place if there is none yet.
+    pub fn add_body(&mut self, body: &Set, identifiers: &[i128]) {
         let numbers: Vec<Fraction> = body.generators.iter().map(|_| self.pick()).collect();
         let point = add(&polynomial(body, identifiers, &self.values), &generated(body, &numbers));
         self.place = if self.place.is_empty() { point } else { add(&self.place, &point) };
@@ -168,7 +168,7 @@ impl Motion {
     }
 
     /// The step's polynomial without rounding, each coefficient picked within its half-width of the entry.
-    fn step(&mut self, step: &Step, half_widths: &HalfWidths) {
+    pub fn step(&mut self, step: &Step, half_widths: &HalfWidths) {
         let x = std::mem::take(&mut self.place);
         let products: Vec<Vec<Fraction>> = x.iter().map(|a| x.iter().map(|b| a * b).collect()).collect();
         for (i, constant) in step.constant.iter().enumerate() {
@@ -176,6 +176,37 @@ impl Motion {
             let rows = step.forms[i].iter().zip(&half_widths.forms[i]).zip(&products);
             let quadratic = sum(rows.map(|((row, widths), products)| self.combination(row, widths, products)));
             self.place.push(&(&Fraction::from(*constant) + &linear) + &quadratic.over_power(24));
+        }
+    }
+
+    /// Adds an offset to each coordinate, picked or, where the number has become long, near the pick.
+    pub fn add_offsets(&mut self, radii: &[i128]) {
+        for (i, radius) in radii.iter().enumerate() {
+            let x = self.place[i].clone();
+            let radius = Fraction::from(*radius);
+            let picked = &x + &(&radius * &self.pick());
+            self.place[i] = picked.clone();
+            if x.bits() > LONG_BITS {
+                let below = picked.rounded_down(GRID);
+                let above = &below + &Fraction::new(1, GRID);
+                let within = |y: &Fraction| (y - &x).abs() <= radius;
+                if let Some(near) = [below, above].into_iter().find(within) {
+                    self.place[i] = near;
+                }
+            }
+        }
+    }
+
+    /// A number in [-1,1].
+    pub fn pick(&mut self) -> Fraction {
+        let end = if self.random.once_in(2) { 1 } else { -1 };
+        match self.manner {
+            Manner::High => Fraction::from(1),
+            Manner::Low => Fraction::from(-1),
+            Manner::Ends => Fraction::from(end),
+            Manner::Any if self.random.once_in(3) => Fraction::from(end),
+            Manner::Any if self.random.once_in(4) => Fraction::zero(),
+            Manner::Any => Fraction::new(self.random.between(-8, 8), 3),
         }
     }
 
@@ -195,62 +226,9 @@ impl Motion {
         &Fraction::from(entry) + &(&most * &self.pick())
     }
 
-    /// Adds an offset to each coordinate, picked or, where the number has become long, near the pick.
-    fn add_offsets(&mut self, radii: &[i128]) {
-        for (i, radius) in radii.iter().enumerate() {
-            let x = self.place[i].clone();
-            let radius = Fraction::from(*radius);
-            let picked = &x + &(&radius * &self.pick());
-            self.place[i] = picked.clone();
-            if x.bits() > LONG_BITS {
-                let below = picked.rounded_down(GRID);
-                let above = &below + &Fraction::new(1, GRID);
-                let within = |y: &Fraction| (y - &x).abs() <= radius;
-                if let Some(near) = [below, above].into_iter().find(within) {
-                    self.place[i] = near;
-                }
-            }
-        }
-    }
-
     /// How many bits its longest coordinate takes.
     fn bits(&self) -> usize {
         self.place.iter().map(Fraction::bits).max().unwrap_or(0)
-    }
-
-    /// A number in [-1,1].
-    fn pick(&mut self) -> Fraction {
-        let end = if self.random.once_in(2) { 1 } else { -1 };
-        match self.manner {
-            Manner::High => Fraction::from(1),
-            Manner::Low => Fraction::from(-1),
-            Manner::Ends => Fraction::from(end),
-            Manner::Any if self.random.once_in(3) => Fraction::from(end),
-            Manner::Any if self.random.once_in(4) => Fraction::zero(),
-            Manner::Any => Fraction::new(self.random.between(-8, 8), 3),
-        }
-    }
-
-    /// Whether the motion is somewhere it can't be if the answer to this field holds; exact.
-    pub fn escape(&self, set: &Set, outcome: &Outcome, field: &Field) -> Option<Escape> {
-        let ends = match outcome {
-            Outcome::Box(ends) => ends.clone(),
-            Outcome::Verdict { .. } => bounding_box(set),
-        };
-        for (i, (low, high)) in ends.into_iter().enumerate() {
-            if self.place[i] < Fraction::from(low) || self.place[i] > Fraction::from(high) {
-                return Some(Escape::Box(i + 1));
-            }
-        }
-        if !self.is_in(set) {
-            return Some(Escape::Set);
-        }
-        match (field, outcome) {
-            (Field::Check(region), Outcome::Verdict { safe: true }) if is_in_region(&self.place, region) => {
-                Some(Escape::Safe)
-            }
-            _ => None,
-        }
     }
 
     /// Whether the place is a point of the set with the motion's factor values. Where the generator
@@ -262,17 +240,6 @@ impl Motion {
         let within = offset.iter().zip(&radii).all(|(x, r)| x.abs() <= Fraction::from(*r));
         within || contains(&set.generators, &radii, &rest)
     }
-}
-
-/// ((1 + v)x + (1 - v)y)/2.
-fn blend(v: &Fraction, x: &[Fraction], y: &[Fraction]) -> Vec<Fraction> {
-    let one = Fraction::from(1);
-    let (of_x, of_y) = (&one + v, &one - v);
-    x.iter().zip(y).map(|(x, y)| (&(&of_x * x) + &(&of_y * y)).over_power(1)).collect()
-}
-
-fn is_in_region(place: &[Fraction], region: &[Halfspace]) -> bool {
-    region.iter().all(|halfspace| linear(&halfspace.normal, place) <= Fraction::from(halfspace.bound))
 }
 
 /// Centre and terms, the k-th factor at the value of the k-th of `identifiers`.
@@ -291,10 +258,6 @@ fn polynomial(set: &Set, identifiers: &[i128], values: &BTreeMap<i128, Fraction>
 fn generated(set: &Set, numbers: &[Fraction]) -> Vec<Fraction> {
     let coordinate = |i: usize| sum(set.generators.iter().zip(numbers).map(|(g, b)| &Fraction::from(g[i]) * b));
     (0..set.dimension()).map(coordinate).collect()
-}
-
-fn linear(row: &[i128], x: &[Fraction]) -> Fraction {
-    sum(row.iter().zip(x).filter(|(a, _)| **a != 0).map(|(a, x)| &Fraction::from(*a) * x))
 }
 
 fn add(x: &[Fraction], y: &[Fraction]) -> Vec<Fraction> {

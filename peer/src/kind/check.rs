@@ -4,6 +4,8 @@ use super::bytes::push_words;
 use super::{Body, Counts, Kind, Reader, DIMENSION};
 use crate::bounds::{is_safe, Halfspace, MAX_HALFSPACES};
 use crate::finish::Finished;
+use crate::follow::Motion;
+use crate::fraction::{sum, Fraction};
 use crate::run::{Cause, Outcome, State};
 use crate::set::Set;
 use crate::text::labelled;
@@ -24,6 +26,14 @@ impl Kind for Check {
 
     fn answer(region: &Vec<Halfspace>, set: &Set) -> Outcome {
         Outcome::Verdict { safe: is_safe(set, region) }
+    }
+
+    /// It leaves each motion where it is.
+    fn follow(_region: &Vec<Halfspace>, _motion: &mut Motion) {}
+
+    fn excludes(region: &Vec<Halfspace>, answer: &Outcome, place: &[Fraction]) -> bool {
+        let holds = |halfspace: &Halfspace| linear(&halfspace.normal, place) <= Fraction::from(halfspace.bound);
+        *answer == Outcome::Verdict { safe: true } && region.iter().all(holds)
     }
 }
 
@@ -60,4 +70,8 @@ impl Body for Vec<Halfspace> {
 
 fn dimension(region: &[Halfspace]) -> Option<usize> {
     region.first().map(|halfspace| halfspace.normal.len())
+}
+
+fn linear(row: &[i128], x: &[Fraction]) -> Fraction {
+    sum(row.iter().zip(x).filter(|(a, _)| **a != 0).map(|(a, x)| &Fraction::from(*a) * x))
 }

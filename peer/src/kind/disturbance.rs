@@ -3,6 +3,7 @@
 use super::bytes::push_words;
 use super::{Body, Counts, Kind, Reader, DIMENSION};
 use crate::finish::Finished;
+use crate::follow::Motion;
 use crate::run::{Cause, State};
 use crate::set::{all_given, Set};
 use crate::step::CONSTANT_LIMIT;
@@ -25,6 +26,10 @@ impl Kind for Disturbance {
         let set = state.current()?;
         let radius_parts = add(&set.radius_parts, &all_given(radii.iter().copied()));
         Ok((Finished::as_it_is(Set { radius_parts, ..set.clone() }), state.mark))
+    }
+
+    fn follow(radii: &Vec<i128>, motion: &mut Motion) {
+        motion.add_offsets(radii);
     }
 }
 

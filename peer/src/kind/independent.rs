@@ -2,6 +2,7 @@
 
 use super::Kind;
 use crate::finish::Finished;
+use crate::follow::Motion;
 use crate::run::{Cause, State};
 use crate::set::Set;
 use crate::sums::independent_sum;
@@ -19,5 +20,14 @@ impl Kind for IndependentSum {
     fn advance(body: &Set, state: &State) -> Result<(Finished, i128), Cause> {
         let sum = independent_sum(state.current()?, body, state.mark).ok_or(Cause::Factors)?;
         Ok((sum, state.mark + body.identifiers.len() as i128))
+    }
+
+    fn follow(body: &Set, motion: &mut Motion) {
+        let new_factor = |_: &i128| {
+            let value = motion.pick();
+            motion.new_factor(value)
+        };
+        let identifiers: Vec<i128> = body.identifiers.iter().map(new_factor).collect();
+        motion.add_body(body, &identifiers);
     }
 }

@@ -27,6 +27,8 @@ use std::ops::RangeInclusive;
 
 use crate::bounds::bounding_box;
 use crate::finish::Finished;
+use crate::follow::Motion;
+use crate::fraction::Fraction;
 use crate::run::{Cause, Outcome, State};
 use crate::set::{Set, MAX_DIMENSION};
 
@@ -76,6 +78,14 @@ pub trait Kind {
     /// What it says of the set after it: the box, unless the kind has an answer of its own.
     fn answer(_body: &Self::Body, set: &Set) -> Outcome {
         Outcome::Box(bounding_box(set))
+    }
+
+    /// Moves as the field says, without rounding.
+    fn follow(body: &Self::Body, motion: &mut Motion);
+
+    /// Whether the answer rules this place out for every motion, other than by a box.
+    fn excludes(_body: &Self::Body, _answer: &Outcome, _place: &[Fraction]) -> bool {
+        false
     }
 
     /// Its block in a plan.

@@ -4,6 +4,7 @@ use super::bytes::push_entries;
 use super::step::{entries_length, entry_lines};
 use super::{Body, Counts, Kind, Reader};
 use crate::finish::Finished;
+use crate::follow::Motion;
 use crate::run::{Cause, State};
 use crate::step::{HalfWidths, Ranged, Step};
 
@@ -19,6 +20,10 @@ impl Kind for RangedStep {
 
     fn advance(ranged: &Ranged, state: &State) -> Result<(Finished, i128), Cause> {
         Ok((ranged.apply(state.current()?), state.mark))
+    }
+
+    fn follow(ranged: &Ranged, motion: &mut Motion) {
+        motion.step(&ranged.step, &ranged.half_widths);
     }
 }
 

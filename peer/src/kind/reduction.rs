@@ -2,6 +2,7 @@
 
 use super::{Body, Counts, Kind, Reader};
 use crate::finish::{finish, Finished, Limits};
+use crate::follow::Motion;
 use crate::run::{Cause, State};
 use crate::set::{MAX_GENERATORS, MAX_TERMS};
 
@@ -18,6 +19,9 @@ impl Kind for Reduction {
     fn advance(limits: &Limits, state: &State) -> Result<(Finished, i128), Cause> {
         Ok((finish(state.current()?.clone(), *limits), state.mark))
     }
+
+    /// It leaves each motion where it is.
+    fn follow(_limits: &Limits, _motion: &mut Motion) {}
 }
 
 impl Body for Limits {

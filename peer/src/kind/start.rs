@@ -2,6 +2,7 @@
 
 use super::Kind;
 use crate::finish::Finished;
+use crate::follow::Motion;
 use crate::run::{Cause, State};
 use crate::set::Set;
 
@@ -18,5 +19,9 @@ impl Kind for StartSet {
     fn advance(body: &Set, state: &State) -> Result<(Finished, i128), Cause> {
         Cause::Tag.unless(state.set.is_none())?;
         Ok((Finished::as_it_is(body.clone()), state.mark))
+    }
+
+    fn follow(body: &Set, motion: &mut Motion) {
+        motion.add_tied(body);
     }
 }

@@ -3,6 +3,7 @@
 use super::bytes::{push_entries, push_words};
 use super::{Body, Counts, Kind, Reader, DIMENSION};
 use crate::finish::Finished;
+use crate::follow::Motion;
 use crate::run::{Cause, State};
 use crate::step::Step;
 use crate::text::{joined, labelled};
@@ -19,6 +20,10 @@ impl Kind for PlainStep {
 
     fn advance(step: &Step, state: &State) -> Result<(Finished, i128), Cause> {
         Ok((step.apply(state.current()?), state.mark))
+    }
+
+    fn follow(step: &Step, motion: &mut Motion) {
+        motion.step(step, &step.exactly());
     }
 }
 

@@ -2,6 +2,7 @@
 
 use super::Kind;
 use crate::finish::Finished;
+use crate::follow::Motion;
 use crate::run::{Cause, State};
 use crate::set::Set;
 use crate::sums::tied_sum;
@@ -19,5 +20,9 @@ impl Kind for TiedSum {
     fn advance(body: &Set, state: &State) -> Result<(Finished, i128), Cause> {
         let sum = tied_sum(state.current()?, body).ok_or(Cause::Factors)?;
         Ok((sum, state.mark))
+    }
+
+    fn follow(body: &Set, motion: &mut Motion) {
+        motion.add_tied(body);
     }
 }
