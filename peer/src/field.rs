@@ -4,7 +4,8 @@ use crate::bounds::Halfspace;
 use crate::finish::{Finished, Limits};
 use crate::follow::Motion;
 use crate::fraction::Fraction;
-use crate::kind::{self, counts_fit, Body, Counts, Kind, Reader};
+use crate::kind::{self, counts_fit, Body, Counts, Kind, Labels, Reader};
+use crate::plan::{Line, PlanError};
 use crate::run::{Cause, Outcome, State};
 use crate::set::Set;
 use crate::step::{Ranged, Step};
@@ -47,6 +48,14 @@ macro_rules! kinds {
 
             pub fn word(self) -> &'static str {
                 match self { $(Tag::$name => <$kind>::WORD,)* }
+            }
+
+            pub fn parts(self) -> Labels {
+                match self { $(Tag::$name => <$body>::PARTS,)* }
+            }
+
+            pub fn read(self, head: &Line, parts: &[Line]) -> Result<Field, PlanError> {
+                match self { $(Tag::$name => <$body>::read(head, parts).map(Field::$name),)* }
             }
         }
 

@@ -30,20 +30,14 @@
 
 use std::slice::from_ref;
 
-use crate::bounds::{Halfspace, MAX_HALFSPACES};
-use crate::field::Field;
-use crate::finish::Limits;
-use crate::number::{count, Kind, BOUND, BYTE, IDENTIFIER, WORD};
-use crate::set::{all_given, Set, Term, MAX_DIMENSION, MAX_FACTORS, MAX_GENERATORS, MAX_TERMS};
-use crate::step::{HalfWidths, Ranged, Step};
+use crate::field::Tag;
+use crate::number::{count, Kind, WORD};
+use crate::set::MAX_DIMENSION;
 
+pub const DIMENSION: Kind = count(1, MAX_DIMENSION as i128);
 /// Repeats that give more bytes than the longest run has, or nest deeper, are taken for a slip.
 const MAX_BYTES: usize = 1 << 24;
 const MAX_DEPTH: usize = 16;
-const DIMENSION: Kind = count(1, MAX_DIMENSION as i128);
-const FIELDS: [&str; 9] = ["start", "step", "disturbance", "independent", "tied", "reduce", "check", "hull", "ranged"];
-const PARTS: [&str; 11] =
-    ["identifiers", "centre", "term", "generator", "radii", "c", "A", "Q", "A+-", "Q+-", "halfspace"];
 
 #[derive(Debug, PartialEq, Eq)]
 pub struct PlanError {
@@ -85,10 +79,10 @@ pub fn encode(text: &str) -> Result<Encoded, PlanError> {
 
 /// A line with something on it, as words; `:`, `/`, `{` and `}` are words of their own.
 #[derive(Clone)]
-struct Line {
+pub struct Line {
     number: usize,
-    label: String,
-    words: Vec<String>,
+    pub label: String,
+    pub words: Vec<String>,
 }
 
 impl Line {
@@ -102,15 +96,15 @@ impl Line {
         Some(Line { number, label, words: words.collect() })
     }
 
-    fn error<T>(&self, message: impl Into<String>) -> Result<T, PlanError> {
+    pub fn error<T>(&self, message: impl Into<String>) -> Result<T, PlanError> {
         Err(PlanError { line: self.number, message: message.into() })
     }
 
-    fn numbers(&self, words: &[String], kind: Kind) -> Result<Vec<i128>, PlanError> {
+    pub fn numbers(&self, words: &[String], kind: Kind) -> Result<Vec<i128>, PlanError> {
         words.iter().map(|w| kind.parse(w).or_else(|message| self.error(message))).collect()
     }
 
-    fn exactly(&self, words: &[String], size: usize, kind: Kind) -> Result<Vec<i128>, PlanError> {
+    pub fn exactly(&self, words: &[String], size: usize, kind: Kind) -> Result<Vec<i128>, PlanError> {
         if words.len() != size {
             let numbers = if size == 1 { "number" } else { "numbers" };
             return self.error(format!("'{}' needs {size} {numbers} here, not {}", self.label, words.len()));
@@ -118,8 +112,13 @@ impl Line {
         self.numbers(words, kind)
     }
 
+    /// The one number that stands after the word of most fields.
+    pub fn dimension(&self) -> Result<usize, PlanError> {
+        Ok(self.exactly(&self.words, 1, DIMENSION)?[0] as usize)
+    }
+
     /// What stands before and after the one `:`.
-    fn halves(&self) -> Result<(&[String], &[String]), PlanError> {
+    pub fn halves(&self) -> Result<(&[String], &[String]), PlanError> {
         let mut parts = self.words.split(|w| w == ":");
         match (parts.next(), parts.next(), parts.next()) {
             (Some(before), Some(after), None) => Ok((before, after)),
@@ -127,7 +126,7 @@ impl Line {
         }
     }
 
-    fn rows(&self, words: &[String], rows: usize, columns: usize) -> Result<Vec<Vec<i128>>, PlanError> {
+    pub fn rows(&self, words: &[String], rows: usize, columns: usize) -> Result<Vec<Vec<i128>>, PlanError> {
         let parts: Vec<&[String]> = words.split(|w| w == "/").collect();
         if parts.len() != rows {
             let noun = if rows == 1 { "row" } else { "rows" };
@@ -160,14 +159,16 @@ fn blocks(lines: &mut &[Line], open: &[&Line]) -> Result<Encoded, PlanError> {
                 (0..times).for_each(|_| encoded.append(&inner));
             }
             "raw" => encoded.push(head.number, &raw(head)?),
-            label if FIELDS.contains(&label) => {
-                let size = rest.iter().take_while(|line| PARTS.contains(&line.label.as_str())).count();
+            label if is_part(label) => return head.error(format!("'{label}' stands under no field")),
+            label => {
+                let Some(tag) = Tag::ALL.iter().find(|tag| tag.word() == label) else {
+                    return head.error(format!("'{label}' is not a word that a plan's line begins with"));
+                };
+                let size = rest.iter().take_while(|line| is_part(&line.label)).count();
                 let (parts, rest) = rest.split_at(size);
                 *lines = rest;
-                encoded.push(head.number, &field(head, parts)?.encode());
+                encoded.push(head.number, &tag.read(head, parts)?.encode());
             }
-            label if PARTS.contains(&label) => return head.error(format!("'{label}' stands under no field")),
-            label => return head.error(format!("'{label}' is not a word that a plan's line begins with")),
         }
     }
     match open.last() {
@@ -189,32 +190,12 @@ fn raw(head: &Line) -> Result<Vec<u8>, PlanError> {
     head.words.iter().map(or_error).collect()
 }
 
-fn field(head: &Line, parts: &[Line]) -> Result<Field, PlanError> {
-    let dimension = || -> Result<usize, PlanError> { Ok(head.exactly(&head.words, 1, DIMENSION)?[0] as usize) };
-    match head.label.as_str() {
-        "start" => set(head, parts, dimension()?).map(Field::Start),
-        "independent" => set(head, parts, dimension()?).map(Field::Independent),
-        "tied" => set(head, parts, dimension()?).map(Field::Tied),
-        "hull" => set(head, parts, dimension()?).map(Field::Hull),
-        "step" => {
-            allow(head, parts, &["c", "A", "Q"])?;
-            step(head, parts).map(Field::Step)
-        }
-        "ranged" => ranged(head, parts).map(Field::Ranged),
-        "disturbance" => {
-            allow(head, parts, &["radii"])?;
-            vector(parts, "radii", dimension()?).map(Field::Disturbance)
-        }
-        "reduce" => {
-            allow(head, parts, &[])?;
-            let limits = head.exactly(&head.words, 2, BYTE)?;
-            Ok(Field::Reduce(Limits { terms: limits[0] as usize, generators: limits[1] as usize }))
-        }
-        _ => check(head, parts, dimension()?).map(Field::Check),
-    }
+/// Whether a line that begins so stands under a field.
+fn is_part(label: &str) -> bool {
+    Tag::ALL.iter().any(|tag| tag.parts().contains(&label))
 }
 
-fn allow(head: &Line, parts: &[Line], labels: &[&str]) -> Result<(), PlanError> {
+pub fn allow(head: &Line, parts: &[Line], labels: &[&str]) -> Result<(), PlanError> {
     match parts.iter().find(|part| !labels.contains(&part.label.as_str())) {
         Some(part) => part.error(format!("'{}' does not belong under '{}'", part.label, head.label)),
         None => Ok(()),
@@ -222,7 +203,7 @@ fn allow(head: &Line, parts: &[Line], labels: &[&str]) -> Result<(), PlanError> 
 }
 
 /// The one part with this label, if any.
-fn single<'a>(parts: &'a [Line], label: &str) -> Result<Option<&'a Line>, PlanError> {
+pub fn single<'a>(parts: &'a [Line], label: &str) -> Result<Option<&'a Line>, PlanError> {
     let mut found = parts.iter().filter(|part| part.label == label);
     match (found.next(), found.next()) {
         (_, Some(second)) => second.error(format!("a second '{label}' in one field")),
@@ -230,14 +211,14 @@ fn single<'a>(parts: &'a [Line], label: &str) -> Result<Option<&'a Line>, PlanEr
     }
 }
 
-fn vector(parts: &[Line], label: &str, size: usize) -> Result<Vec<i128>, PlanError> {
+pub fn vector(parts: &[Line], label: &str, size: usize) -> Result<Vec<i128>, PlanError> {
     match single(parts, label)? {
         Some(part) => part.exactly(&part.words, size, WORD),
         None => Ok(vec![0; size]),
     }
 }
 
-fn several<'a, T>(
+pub fn several<'a, T>(
     parts: &'a [Line],
     label: &str,
     limit: usize,
@@ -250,51 +231,7 @@ fn several<'a, T>(
     }
 }
 
-fn set(head: &Line, parts: &[Line], n: usize) -> Result<Set, PlanError> {
-    allow(head, parts, &["identifiers", "centre", "term", "generator", "radii"])?;
-    let identifiers = match single(parts, "identifiers")? {
-        Some(part) if part.words.len() > MAX_FACTORS => {
-            return part.error(format!("a set has at most {MAX_FACTORS} identifiers"))
-        }
-        Some(part) => part.numbers(&part.words, IDENTIFIER)?,
-        None => Vec::new(),
-    };
-    let term = |part: &Line| {
-        let (exponents, coefficients) = part.halves()?;
-        let exponents = part.exactly(exponents, identifiers.len(), BYTE)?;
-        let exponents = exponents.into_iter().map(|e| e as u32).collect();
-        Ok(Term { exponents, coefficients: part.exactly(coefficients, n, WORD)? })
-    };
-    let terms = several(parts, "term", MAX_TERMS, term)?;
-    Ok(Set {
-        centre: vector(parts, "centre", n)?,
-        terms,
-        generators: several(parts, "generator", MAX_GENERATORS, |p| p.exactly(&p.words, n, WORD))?,
-        radius_parts: all_given(vector(parts, "radii", n)?),
-        identifiers,
-    })
-}
-
-fn step(head: &Line, parts: &[Line]) -> Result<Step, PlanError> {
-    let (m, n) = match head.words.as_slice() {
-        [m, from, n] if from == "from" => {
-            let counts = head.numbers(&[m.clone(), n.clone()], DIMENSION)?;
-            (counts[0] as usize, counts[1] as usize)
-        }
-        _ => return head.error(format!("this step is written '{} M from N'", head.label)),
-    };
-    Ok(Step { constant: vector(parts, "c", m)?, matrix: matrix(parts, "A", m, n)?, forms: forms(parts, "Q", m, n)? })
-}
-
-fn ranged(head: &Line, parts: &[Line]) -> Result<Ranged, PlanError> {
-    allow(head, parts, &["c", "A", "Q", "A+-", "Q+-"])?;
-    let step = step(head, parts)?;
-    let (m, n) = (step.constant.len(), step.from_dimension());
-    let half_widths = HalfWidths { matrix: matrix(parts, "A+-", m, n)?, forms: forms(parts, "Q+-", m, n)? };
-    Ok(Ranged { step, half_widths })
-}
-
-fn matrix(parts: &[Line], label: &str, rows: usize, columns: usize) -> Result<Vec<Vec<i128>>, PlanError> {
+pub fn matrix(parts: &[Line], label: &str, rows: usize, columns: usize) -> Result<Vec<Vec<i128>>, PlanError> {
     match single(parts, label)? {
         Some(part) => part.rows(&part.words, rows, columns),
         None => Ok(vec![vec![0; columns]; rows]),
@@ -302,7 +239,7 @@ fn matrix(parts: &[Line], label: &str, rows: usize, columns: usize) -> Result<Ve
 }
 
 /// For each of m coordinates the form that is given for it, or zeros.
-fn forms(parts: &[Line], label: &str, m: usize, n: usize) -> Result<Vec<Vec<Vec<i128>>>, PlanError> {
+pub fn forms(parts: &[Line], label: &str, m: usize, n: usize) -> Result<Vec<Vec<Vec<i128>>>, PlanError> {
     let mut forms: Vec<Option<Vec<Vec<i128>>>> = vec![None; m];
     for part in parts.iter().filter(|part| part.label == label) {
         let (coordinate, rows) = part.halves()?;
@@ -312,16 +249,4 @@ fn forms(parts: &[Line], label: &str, m: usize, n: usize) -> Result<Vec<Vec<Vec<
         }
     }
     Ok(forms.into_iter().map(|form| form.unwrap_or(vec![vec![0; n]; n])).collect())
-}
-
-fn check(head: &Line, parts: &[Line], n: usize) -> Result<Vec<Halfspace>, PlanError> {
-    allow(head, parts, &["halfspace"])?;
-    let region = several(parts, "halfspace", MAX_HALFSPACES, |part| {
-        let (normal, bound) = part.halves()?;
-        Ok(Halfspace { normal: part.exactly(normal, n, WORD)?, bound: part.exactly(bound, 1, BOUND)?[0] })
-    })?;
-    if region.is_empty() {
-        return head.error("a check needs a halfspace");
-    }
-    Ok(region)
 }

@@ -1,11 +1,13 @@
 //! The check against an unsafe region, whose halfspaces are its body.
 
 use super::bytes::push_words;
-use super::{Body, Counts, Kind, Reader, DIMENSION};
+use super::{Body, Counts, Kind, Labels, Reader, DIMENSION};
 use crate::bounds::{is_safe, Halfspace, MAX_HALFSPACES};
 use crate::finish::Finished;
 use crate::follow::Motion;
 use crate::fraction::{sum, Fraction};
+use crate::number::{BOUND, WORD};
+use crate::plan::{allow, several, Line, PlanError};
 use crate::run::{Cause, Outcome, State};
 use crate::set::Set;
 use crate::text::labelled;
@@ -39,6 +41,7 @@ impl Kind for Check {
 
 impl Body for Vec<Halfspace> {
     const COUNTS: Counts = &[DIMENSION, 1..=MAX_HALFSPACES as u8];
+    const PARTS: Labels = &["halfspace"];
 
     fn length(counts: &mut Reader) -> usize {
         let (n, count) = (counts.count(), counts.count());
@@ -65,6 +68,19 @@ impl Body for Vec<Halfspace> {
     fn text(&self) -> (String, Vec<String>) {
         let line = |h: &Halfspace| format!("{} : {}", labelled("halfspace", &h.normal), h.bound);
         (dimension(self).unwrap_or(0).to_string(), self.iter().map(line).collect())
+    }
+
+    fn read(head: &Line, parts: &[Line]) -> Result<Vec<Halfspace>, PlanError> {
+        let n = head.dimension()?;
+        allow(head, parts, Self::PARTS)?;
+        let region = several(parts, "halfspace", MAX_HALFSPACES, |part| {
+            let (normal, bound) = part.halves()?;
+            Ok(Halfspace { normal: part.exactly(normal, n, WORD)?, bound: part.exactly(bound, 1, BOUND)?[0] })
+        })?;
+        if region.is_empty() {
+            return head.error("a check needs a halfspace");
+        }
+        Ok(region)
     }
 }
 

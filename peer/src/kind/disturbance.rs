@@ -1,9 +1,10 @@
 //! The disturbance, whose body is a radius for each coordinate.
 
 use super::bytes::push_words;
-use super::{Body, Counts, Kind, Reader, DIMENSION};
+use super::{Body, Counts, Kind, Labels, Reader, DIMENSION};
 use crate::finish::Finished;
 use crate::follow::Motion;
+use crate::plan::{allow, vector, Line, PlanError};
 use crate::run::{Cause, State};
 use crate::set::{all_given, Set};
 use crate::step::CONSTANT_LIMIT;
@@ -35,6 +36,7 @@ impl Kind for Disturbance {
 
 impl Body for Vec<i128> {
     const COUNTS: Counts = &[DIMENSION];
+    const PARTS: Labels = &["radii"];
 
     fn length(counts: &mut Reader) -> usize {
         1 + 4 * counts.count()
@@ -57,5 +59,10 @@ impl Body for Vec<i128> {
 
     fn text(&self) -> (String, Vec<String>) {
         (self.len().to_string(), vec![labelled("radii", self)])
+    }
+
+    fn read(head: &Line, parts: &[Line]) -> Result<Vec<i128>, PlanError> {
+        allow(head, parts, Self::PARTS)?;
+        vector(parts, "radii", head.dimension()?)
     }
 }

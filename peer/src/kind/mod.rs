@@ -29,17 +29,21 @@ use crate::bounds::bounding_box;
 use crate::finish::Finished;
 use crate::follow::Motion;
 use crate::fraction::Fraction;
+use crate::plan::{Line, PlanError};
 use crate::run::{Cause, Outcome, State};
 use crate::set::{Set, MAX_DIMENSION};
 
 /// The limits of each count that a body begins with.
 pub type Counts = &'static [RangeInclusive<u8>];
+/// What the lines under a field in a plan can begin with.
+pub type Labels = &'static [&'static str];
 
 const DIMENSION: RangeInclusive<u8> = 1..=MAX_DIMENSION as u8;
 
 /// What stands in a field. Kinds may share it, as a start set, the sums and the hull do.
 pub trait Body: Sized {
     const COUNTS: Counts;
+    const PARTS: Labels;
 
     /// The length that its counts give.
     fn length(counts: &mut Reader) -> usize;
@@ -60,6 +64,9 @@ pub trait Body: Sized {
 
     /// What stands after its word in a plan, and the lines under that.
     fn text(&self) -> (String, Vec<String>);
+
+    /// The body that a block in a plan states, by its first line and those under it.
+    fn read(head: &Line, parts: &[Line]) -> Result<Self, PlanError>;
 }
 
 /// What a field does with its body.

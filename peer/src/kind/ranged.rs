@@ -1,10 +1,11 @@
 //! The ranged step: a step's body, then a half-width for each entry of A and Q.
 
 use super::bytes::push_entries;
-use super::step::{entries_length, entry_lines};
-use super::{Body, Counts, Kind, Reader};
+use super::step::{entries_length, entry_lines, read_step};
+use super::{Body, Counts, Kind, Labels, Reader};
 use crate::finish::Finished;
 use crate::follow::Motion;
+use crate::plan::{allow, forms, matrix, Line, PlanError};
 use crate::run::{Cause, State};
 use crate::step::{HalfWidths, Ranged, Step};
 
@@ -29,6 +30,7 @@ impl Kind for RangedStep {
 
 impl Body for Ranged {
     const COUNTS: Counts = Step::COUNTS;
+    const PARTS: Labels = &["c", "A", "Q", "A+-", "Q+-"];
 
     fn length(counts: &mut Reader) -> usize {
         let (m, n) = (counts.count(), counts.count());
@@ -54,5 +56,13 @@ impl Body for Ranged {
         let (head, mut parts) = self.step.text();
         parts.extend(entry_lines("A+-", &self.half_widths.matrix, "Q+-", &self.half_widths.forms));
         (head, parts)
+    }
+
+    fn read(head: &Line, parts: &[Line]) -> Result<Ranged, PlanError> {
+        allow(head, parts, Self::PARTS)?;
+        let step = read_step(head, parts)?;
+        let (m, n) = (step.constant.len(), step.from_dimension());
+        let half_widths = HalfWidths { matrix: matrix(parts, "A+-", m, n)?, forms: forms(parts, "Q+-", m, n)? };
+        Ok(Ranged { step, half_widths })
     }
 }

@@ -1,8 +1,10 @@
 //! The reduction to so many terms and generators.
 
-use super::{Body, Counts, Kind, Reader};
+use super::{Body, Counts, Kind, Labels, Reader};
 use crate::finish::{finish, Finished, Limits};
 use crate::follow::Motion;
+use crate::number::BYTE;
+use crate::plan::{allow, Line, PlanError};
 use crate::run::{Cause, State};
 use crate::set::{MAX_GENERATORS, MAX_TERMS};
 
@@ -26,6 +28,7 @@ impl Kind for Reduction {
 
 impl Body for Limits {
     const COUNTS: Counts = &[0..=MAX_TERMS as u8, 0..=MAX_GENERATORS as u8];
+    const PARTS: Labels = &[];
 
     fn length(_counts: &mut Reader) -> usize {
         2
@@ -50,5 +53,11 @@ impl Body for Limits {
 
     fn text(&self) -> (String, Vec<String>) {
         (format!("{} {}", self.terms, self.generators), Vec::new())
+    }
+
+    fn read(head: &Line, parts: &[Line]) -> Result<Limits, PlanError> {
+        allow(head, parts, Self::PARTS)?;
+        let limits = head.exactly(&head.words, 2, BYTE)?;
+        Ok(Limits { terms: limits[0] as usize, generators: limits[1] as usize })
     }
 }

@@ -1,13 +1,16 @@
 //! A set as a body, which a start set, the sums and the hull share.
 
 use super::bytes::push_words;
-use super::{Body, Counts, Reader, DIMENSION};
+use super::{Body, Counts, Labels, Reader, DIMENSION};
+use crate::number::{BYTE, IDENTIFIER, WORD};
+use crate::plan::{allow, several, single, vector, Line, PlanError};
 use crate::run::Cause;
 use crate::set::{all_given, Set, Term, MAX_FACTORS, MAX_GENERATORS, MAX_TERMS};
 use crate::text::body_lines;
 
 impl Body for Set {
     const COUNTS: Counts = &[DIMENSION, 0..=MAX_FACTORS as u8, 0..=MAX_TERMS as u8, 0..=MAX_GENERATORS as u8];
+    const PARTS: Labels = &["identifiers", "centre", "term", "generator", "radii"];
 
     fn length(counts: &mut Reader) -> usize {
         let (n, p, h, q) = (counts.count(), counts.count(), counts.count(), counts.count());
@@ -50,5 +53,31 @@ impl Body for Set {
 
     fn text(&self) -> (String, Vec<String>) {
         (self.dimension().to_string(), body_lines(self))
+    }
+
+    fn read(head: &Line, parts: &[Line]) -> Result<Set, PlanError> {
+        let n = head.dimension()?;
+        allow(head, parts, Self::PARTS)?;
+        let identifiers = match single(parts, "identifiers")? {
+            Some(part) if part.words.len() > MAX_FACTORS => {
+                return part.error(format!("a set has at most {MAX_FACTORS} identifiers"))
+            }
+            Some(part) => part.numbers(&part.words, IDENTIFIER)?,
+            None => Vec::new(),
+        };
+        let term = |part: &Line| {
+            let (exponents, coefficients) = part.halves()?;
+            let exponents = part.exactly(exponents, identifiers.len(), BYTE)?;
+            let exponents = exponents.into_iter().map(|e| e as u32).collect();
+            Ok(Term { exponents, coefficients: part.exactly(coefficients, n, WORD)? })
+        };
+        let terms = several(parts, "term", MAX_TERMS, term)?;
+        Ok(Set {
+            centre: vector(parts, "centre", n)?,
+            terms,
+            generators: several(parts, "generator", MAX_GENERATORS, |p| p.exactly(&p.words, n, WORD))?,
+            radius_parts: all_given(vector(parts, "radii", n)?),
+            identifiers,
+        })
     }
 }

@@ -1,9 +1,10 @@
 //! The step. A ranged step's body begins with a step's and is written like one.
 
 use super::bytes::{push_entries, push_words};
-use super::{Body, Counts, Kind, Reader, DIMENSION};
+use super::{Body, Counts, Kind, Labels, Reader, DIMENSION};
 use crate::finish::Finished;
 use crate::follow::Motion;
+use crate::plan::{self, allow, forms, matrix, vector, Line, PlanError};
 use crate::run::{Cause, State};
 use crate::step::Step;
 use crate::text::{joined, labelled};
@@ -29,6 +30,7 @@ impl Kind for PlainStep {
 
 impl Body for Step {
     const COUNTS: Counts = &[DIMENSION, DIMENSION];
+    const PARTS: Labels = &["c", "A", "Q"];
 
     fn length(counts: &mut Reader) -> usize {
         let (m, n) = (counts.count(), counts.count());
@@ -55,6 +57,11 @@ impl Body for Step {
         parts.extend(entry_lines("A", &self.matrix, "Q", &self.forms));
         (format!("{} from {}", self.constant.len(), self.from_dimension()), parts)
     }
+
+    fn read(head: &Line, parts: &[Line]) -> Result<Step, PlanError> {
+        allow(head, parts, Self::PARTS)?;
+        read_step(head, parts)
+    }
 }
 
 /// How many bytes A and Q take, or their half-widths.
@@ -70,4 +77,16 @@ pub fn entry_lines(a: &str, matrix: &[Vec<i128>], q: &str, forms: &[Vec<Vec<i128
         lines.push(format!("{q} {} : {}", i + 1, rows(form)));
     }
     lines
+}
+
+/// c, A and Q, among whatever lines there are.
+pub fn read_step(head: &Line, parts: &[Line]) -> Result<Step, PlanError> {
+    let (m, n) = match head.words.as_slice() {
+        [m, from, n] if from == "from" => {
+            let counts = head.numbers(&[m.clone(), n.clone()], plan::DIMENSION)?;
+            (counts[0] as usize, counts[1] as usize)
+        }
+        _ => return head.error(format!("this step is written '{} M from N'", head.label)),
+    };
+    Ok(Step { constant: vector(parts, "c", m)?, matrix: matrix(parts, "A", m, n)?, forms: forms(parts, "Q", m, n)? })
 }
