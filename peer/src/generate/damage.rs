@@ -1,5 +1,6 @@
 //! Files that went wrong on the way: cut, with bytes changed, or nothing but noise.
 
+use super::parts::later_tag;
 use super::valid::{prefix, run, MIXED};
 use crate::field::Tag;
 use crate::random::Random;
@@ -39,7 +40,7 @@ pub fn bytes(random: &mut Random) -> Vec<u8> {
     }
     let mut bytes = Vec::new();
     for number in 0..1 + random.below(4) {
-        let tag = if number == 0 { Tag::Start } else { Tag::ALL[1 + random.below(8)] };
+        let tag = if number == 0 { Tag::Start } else { later_tag(random) };
         let mut body = vec![1 + random.below(3) as u8];
         body.extend((1..tag.counts().len()).map(|_| random.below(3) as u8));
         if random.once_in(3) {
@@ -60,7 +61,7 @@ pub fn long_field(random: &mut Random) -> Vec<u8> {
     let fields = random.below(3);
     let mut bytes = prefix(random, &MIXED, fields).bytes;
     let length = *random.pick(&[2_113, 4_096, 8_192, 32_767, 32_768, 65_534, 65_535]) - random.below(4);
-    bytes.push(if random.once_in(8) { random.word() as u8 } else { 2 + random.below(8) as u8 });
+    bytes.push(if random.once_in(8) { random.word() as u8 } else { later_tag(random) as u8 });
     bytes.extend((length as u16).to_le_bytes());
     let there = length - if random.once_in(3) { 1 + random.below(3) } else { 0 };
     let bad = random.once_in(2);

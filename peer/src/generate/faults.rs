@@ -1,16 +1,16 @@
 //! One thing wrong: in a field's numbers, or in its bytes.
 
-use crate::bounds::{BOUND_LIMIT, MAX_HALFSPACES};
-use crate::field::{Field, HEADER};
+use crate::bounds::BOUND_LIMIT;
+use crate::field::{Field, Tag, HEADER};
 use crate::kind::MAX_DISTURBANCE;
 use crate::random::Random;
-use crate::set::{Set, MAX_DIMENSION, MAX_FACTORS, MAX_FILE_IDENTIFIER, MAX_GENERATORS, MAX_TERMS, SPAN_LIMIT};
+use crate::set::{Set, MAX_FACTORS, MAX_FILE_IDENTIFIER, SPAN_LIMIT};
 use crate::step::{HalfWidths, Ranged, Step, CONSTANT_LIMIT, ENTRY_LIMIT};
 
 pub fn body_of(field: &mut Field) -> Option<&mut Set> {
     match field {
         Field::Start(body) | Field::Independent(body) | Field::Tied(body) | Field::Hull(body) => Some(body),
-        _ => None,
+        Field::Step(_) | Field::Disturbance(_) | Field::Reduce(_) | Field::Check(_) | Field::Ranged(_) => None,
     }
 }
 
@@ -123,11 +123,14 @@ pub fn widen(random: &mut Random, body: &mut Set) {
     }
 }
 
+/// Puts the tag of another place there, or one that no field has.
 pub fn break_tag(random: &mut Random, bytes: &mut [u8], first: bool) {
+    let (start, others) = (Tag::Start as u8, Tag::ALL[1..].iter().map(|tag| *tag as u8));
+    let unknown = 1 + Tag::ALL.len() as u8;
     bytes[0] = if first {
-        *random.pick(&[0, 2, 3, 4, 5, 6, 7, 8, 9, 10, 255])
+        *random.pick(&[vec![0], others.collect(), vec![unknown, 255]].concat())
     } else {
-        *random.pick(&[0, 1, 10, 11, 128, 255])
+        *random.pick(&[0, start, unknown, unknown + 1, 128, 255])
     };
 }
 
@@ -151,21 +154,15 @@ pub fn resize_body(bytes: &mut Vec<u8>, length: usize) {
 
 /// Puts one of the count bytes out of its limits.
 pub fn break_count(random: &mut Random, bytes: &mut [u8]) {
-    let [tag, _, _, counts @ ..] = bytes else { return };
-    let (place, limit, from_zero) = match *tag {
-        1 | 4 | 5 | 8 => *random.pick(&[
-            (0, MAX_DIMENSION, false),
-            (1, MAX_FACTORS, true),
-            (2, MAX_TERMS, true),
-            (3, MAX_GENERATORS, true),
-        ]),
-        2 | 9 => *random.pick(&[(0, MAX_DIMENSION, false), (1, MAX_DIMENSION, false)]),
-        3 => (0, MAX_DIMENSION, false),
-        6 => *random.pick(&[(0, MAX_TERMS, true), (1, MAX_GENERATORS, true)]),
-        _ => *random.pick(&[(0, MAX_DIMENSION, false), (1, MAX_HALFSPACES, false)]),
+    let [tag, _, _, body @ ..] = bytes else { return };
+    let Some(tag) = Tag::of(*tag) else { return };
+    let place = match tag.counts() {
+        [_] => 0,
+        counts => random.below(counts.len()),
     };
-    if let Some(count) = counts.get_mut(place) {
-        let over = limit as u8 + 1;
-        *count = *random.pick(&[over, over + 1, 255, if from_zero { over } else { 0 }]);
+    let limits = &tag.counts()[place];
+    if let Some(count) = body.get_mut(place) {
+        let over = limits.end() + 1;
+        *count = *random.pick(&[over, over + 1, 255, if limits.contains(&0) { over } else { 0 }]);
     }
 }

@@ -3,6 +3,7 @@
 use std::collections::BTreeSet;
 
 use crate::bounds::{lower_end, Halfspace, BOUND_LIMIT, MAX_HALFSPACES};
+use crate::field::Tag;
 use crate::random::Random;
 use crate::set::{all_given, Set, Term, MAX_FILE_IDENTIFIER, SPAN_LIMIT};
 use crate::step::{HalfWidths, Ranged, Step, ENTRY_LIMIT, ROUND, UNIT};
@@ -180,4 +181,9 @@ pub fn region(random: &mut Random, set: &Set) -> Vec<Halfspace> {
             Halfspace { normal, bound }
         })
         .collect()
+}
+
+/// The tag of a field after the first.
+pub fn later_tag(random: &mut Random) -> Tag {
+    *random.pick(&Tag::ALL[1..])
 }

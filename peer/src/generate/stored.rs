@@ -2,6 +2,7 @@
 
 use super::damage::{damage, noise};
 use super::faults::{break_length, resize_body};
+use super::parts::later_tag;
 use super::plain::{empty_disturbance, little_change, plain_set};
 use super::valid::{lengthen, prefix, DIMENSIONS, HULLS, MIXED, REDUCTIONS};
 use crate::field::{Field, HEADER};
@@ -172,7 +173,7 @@ fn nearly_empty(random: &mut Random) -> Vec<u8> {
 
 /// A field of so many bytes, at least a header's, of any tag; its body is of zeros or noise.
 fn other(random: &mut Random, length: usize) -> Vec<u8> {
-    let tag = if random.once_in(2) { random.word() as u8 } else { 2 + random.below(8) as u8 };
+    let tag = if random.once_in(2) { random.word() as u8 } else { later_tag(random) as u8 };
     let mut field = vec![tag, 0, 0];
     if random.once_in(2) {
         field.extend(noise(random, length));
