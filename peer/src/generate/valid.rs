@@ -73,6 +73,9 @@ pub const RANGES: Profile = Profile { fields: 16, ranges: 12, ..MIXED };
 pub const WIDE: Profile = Profile { span: SPAN_LIMIT, ..MIXED };
 pub const LONG: Profile = Profile { fields: MAX_FIELDS, dimension: 3, factors: 2, terms: 3, generators: 2, ..MIXED };
 
+/// How a field of a kind is made.
+type Make<'a> = &'a dyn Fn(&mut Random) -> Field;
+
 /// A run file in the making, and where it has led.
 pub struct Builder {
     pub bytes: Vec<u8>,
@@ -135,51 +138,42 @@ pub fn next_field(random: &mut Random, profile: &Profile, state: &State) -> Opti
     let set = state.set.as_ref()?;
     let n = set.dimension();
     let room = SPAN_LIMIT - (0..n).map(|i| set.span(i)).max()?;
-    let chances = [
-        profile.steps,
-        profile.disturbances,
-        profile.independent,
-        profile.tied,
-        profile.reductions,
-        profile.hulls,
-        profile.ranges,
-        profile.checks,
-    ];
-    let mut chosen = random.below(chances.iter().sum());
-    let mut kind = 0;
-    while chosen >= chances[kind] {
-        chosen -= chances[kind];
-        kind += 1;
-    }
-    Some(match kind {
-        0 => {
+    let kinds: [(usize, Make); 8] = [
+        (profile.steps, &|random| {
             let m = 1 + random.below(profile.dimension);
             Field::Step(step(random, set, m, profile.span))
-        }
-        1 => {
+        }),
+        (profile.disturbances, &|random| {
             let limit = room.min(profile.span / 16);
             Field::Disturbance(radii(random, n, limit))
-        }
-        2 => {
+        }),
+        (profile.independent, &|random| {
             let factors = MAX_FACTORS - set.identifiers.len();
             Field::Independent(shaped_body(random, profile, n, factors, room))
-        }
-        3 => Field::Tied(shaped_body(random, profile, n, MAX_FACTORS, room)),
-        4 => {
+        }),
+        (profile.tied, &|random| Field::Tied(shaped_body(random, profile, n, MAX_FACTORS, room))),
+        (profile.reductions, &|random| {
             let few = random.once_in(2);
             let mut limit = |most: usize| random.below(if few { 6 } else { most + 1 });
             Field::Reduce(Limits { terms: limit(MAX_TERMS), generators: limit(MAX_GENERATORS) })
-        }
-        5 => {
+        }),
+        (profile.hulls, &|random| {
             let factors = MAX_FACTORS.saturating_sub(set.identifiers.len() + 1);
             Field::Hull(shaped_body(random, profile, n, factors, SPAN_LIMIT))
-        }
-        6 => {
+        }),
+        (profile.ranges, &|random| {
             let m = 1 + random.below(profile.dimension);
             Field::Ranged(ranged(random, set, m, profile.span))
-        }
-        _ => Field::Check(region(random, set)),
-    })
+        }),
+        (profile.checks, &|random| Field::Check(region(random, set))),
+    ];
+    let mut chosen = random.below(kinds.iter().map(|(chances, _)| chances).sum());
+    let mut kind = 0;
+    while chosen >= kinds[kind].0 {
+        chosen -= kinds[kind].0;
+        kind += 1;
+    }
+    Some(kinds[kind].1(random))
 }
 
 fn shaped_body(random: &mut Random, profile: &Profile, dimension: usize, factors: usize, room: i128) -> Set {
