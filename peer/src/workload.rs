@@ -113,26 +113,28 @@ impl Largest {
 }
 
 fn dense() -> Vec<Field> {
-    turned(800, 300, |random| forms(random, MAX_DIMENSION, 2))
+    turned(800, 300, |random| forms(random, MAX_DIMENSION, 2), Field::Step)
 }
 
 fn linear() -> Vec<Field> {
-    turned(800, 300, |_| vec![vec![vec![0; MAX_DIMENSION]; MAX_DIMENSION]; MAX_DIMENSION])
+    turned(800, 300, |_| vec![vec![vec![0; MAX_DIMENSION]; MAX_DIMENSION]; MAX_DIMENSION], Field::Step)
 }
 
 /// Sets as large as in the dense run would become too wide, even with half-widths of 1.
 fn ranges() -> Vec<Field> {
     let n = MAX_DIMENSION;
     let half_widths = HalfWidths { matrix: vec![vec![1; n]; n], forms: vec![vec![vec![1; n]; n]; n] };
-    let ranged = |field| match field {
-        Field::Step(step) => Field::Ranged(Ranged { step, half_widths: half_widths.clone() }),
-        other => other,
-    };
-    turned(400, 150, |random| forms(random, MAX_DIMENSION, 2)).into_iter().map(ranged).collect()
+    let ranged = |step| Field::Ranged(Ranged { step, half_widths: half_widths.clone() });
+    turned(400, 150, |random| forms(random, MAX_DIMENSION, 2), ranged)
 }
 
-/// Steps that turn and shrink the largest sets; after seven of them a set is added.
-fn turned(limit: i128, small: i128, forms: fn(&mut Random) -> Vec<Vec<Vec<i128>>>) -> Vec<Field> {
+/// Steps that turn and shrink the largest sets, in fields that `field` makes; after seven of them a set is added.
+fn turned(
+    limit: i128,
+    small: i128,
+    forms: fn(&mut Random) -> Vec<Vec<Vec<i128>>>,
+    field: impl Fn(Step) -> Field,
+) -> Vec<Field> {
     let n = MAX_DIMENSION;
     let mut sets = Largest::new(1, limit, small);
     let start = sets.next();
@@ -142,7 +144,7 @@ fn turned(limit: i128, small: i128, forms: fn(&mut Random) -> Vec<Vec<Vec<i128>>
             let random = &mut sets.random;
             let mut matrix: Vec<Vec<i128>> = (0..n).map(|_| numbers(random, n, 60)).collect();
             (0..n).for_each(|i| matrix[i][(i + 1) % n] = 3_200);
-            Field::Step(Step { constant: numbers(random, n, 100), matrix, forms: forms(random) })
+            field(Step { constant: numbers(random, n, 100), matrix, forms: forms(random) })
         }
     })
 }
