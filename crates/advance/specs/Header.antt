@@ -3,12 +3,22 @@ use mathlib.Core.Path.{_≡_}
 use mathlib.Core.List.{List, [], _∷_}
 use mathlib.Core.Option.{none}
 use mathlib.Core.Bool.{Bool, true, false, not, _||_}
-use Prim.Native.Nat.{ℕ, zero, suc, _≤_}
+use Prim.Native.Nat.{ℕ, zero, suc, _≤_, _<_}
 use borrow.Author.Tests.{ltb-false}
 use lib.Dec.{ltb, eqb}
+use lib.ListN.{length}
 use Rattle.model.specs.Limits.{lastField, lastTag}
-use Rattle.model.specs.Run.{Cause, _if_, firstOf, misplaced, cut}
+use Rattle.model.specs.Run.{Cause, _if_, firstOf, misplaced, cut, firstField}
 use Rattle.zonotope.specs.Valid.{passed}
+use Rattle.advance.specs.declared.Header.{Header}
+
+-- the header of the first field of what is left of the input: how many bytes the field has, never more than a header can say, and whether
+-- it is there as a whole
+pub record HeaderOf (rest : List ℕ) (h : Header) : Type 0 where
+  pub bytes : h .bytes ≡ length (firstField rest)
+  pub whole : h .whole ≡ not (cut (firstField rest))
+  pub few : h .bytes ≤ 65538
+  pub left : h .whole ≡ false → length rest < 65538
 
 -- too many fields: 12; the tag: 2; the end of the input: 1
 abbrev pub ofHeader : ℕ → List ℕ → List Cause

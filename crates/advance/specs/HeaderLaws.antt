@@ -1,27 +1,52 @@
--- The causes of a header, by the input's own bytes.
-use mathlib.Core.Path.{_≡_, refl, _∙_}
+-- A header and its causes, by the input's own bytes.
+use mathlib.Core.Path.{_≡_, refl, sym, _∙_}
 use mathlib.Core.List.{List, [], _∷_}
 use mathlib.Core.Option.{none, some}
-use mathlib.Core.Bool.{Bool, true, false, cond, not, _||_}
+use mathlib.Core.Bool.{Bool, true, false, cond, not, _||_, true≢false}
 use Prim.Native.Nat.{ℕ, zero, suc, _+_, _<_, _≤_}
 use native.Mathlib.Omega.{arith}
-use borrow.Author.Tests.{lt-ltb, le-ltb}
+use borrow.Author.Tests.{lt-ltb, le-ltb, ltb-true, ltb-false, not-true}
 use lib.Dec.{ltb, eqb}
 use lib.ListN.{length}
 use Rattle.model.specs.Limits.{lastField, lastTag}
 use Rattle.model.specs.Bytes.{byte}
-use Rattle.model.specs.Run.{firstOf, firstField, fieldLength, bodyLength, misplaced}
+use Rattle.model.specs.Run.{firstOf, firstField, fieldLength, bodyLength, misplaced, cut}
 use Rattle.zonotope.specs.declared.Examined.{Examined}
 use Rattle.zonotope.specs.Answer.{examined}
 use Rattle.states.specs.FirstField.{first-whole, first-last, first-cut, first-misplaced}
-use Rattle.advance.specs.Header.{ofHeader, misplacedTag}
+use Rattle.advance.specs.Header.{HeaderOf, ofHeader, misplacedTag}
 
--- ---- how many bytes the first field has
-pub all-left : (rest : List ℕ) → length rest ≤ fieldLength rest → length rest ≡ length (firstField rest)
-all-left rest h = rw (first-last rest h)
+-- ---- the header
+-- of a field that is cut off, and of one that is there
+module _ (rest : List ℕ) where
+  pub header-cut : length rest < fieldLength rest → length rest < 65538
+      → HeaderOf rest (record { bytes = length rest; whole = false })
+  header-cut h few = record {
+    bytes = rw (first-last rest (omega arith));
+    whole = rw (first-cut rest ∙ lt-ltb _ _ h);
+    few = omega arith;
+    left = λ e. few;
+  }
 
-pub as-announced : (rest : List ℕ) {n : ℕ} → n ≡ bodyLength rest → 3 + n ≤ length rest → 3 + n ≡ length (firstField rest)
-as-announced rest e h = rw (first-whole rest (omega (arith, e))) (omega (arith, e))
+  pub header-whole : {n : ℕ} → n ≡ bodyLength rest → 3 + n ≤ length rest → n < 65536
+      → HeaderOf rest (record { bytes = 3 + n; whole = true })
+  header-whole e h few = record {
+    bytes = rw (first-whole rest (omega (arith, e))) (omega (arith, e));
+    whole = rw (first-cut rest ∙ le-ltb (length rest) (fieldLength rest) (omega (arith, e)));
+    few = omega arith;
+    left = λ z. absurd (true≢false z);
+  }
+
+  -- what its test tells
+  pub is-cut : {w : Bool} → w ≡ not (cut (firstField rest)) → w ≡ false → length rest < fieldLength rest
+  is-cut e f = ltb-true _ _ (sym (first-cut rest) ∙ not-true-false (cut (firstField rest)) (sym e ∙ f))
+    where
+      not-true-false : (b : Bool) → not b ≡ false → b ≡ true
+      not-true-false true q = refl
+      not-true-false false q = absurd (true≢false q)
+
+  pub is-there : {w : Bool} → w ≡ not (cut (firstField rest)) → w ≡ true → fieldLength rest ≤ length rest
+  is-there e f = ltb-false _ _ (sym (first-cut rest) ∙ not-true (cut (firstField rest)) (sym e ∙ f))
 
 -- ---- the tag is the input's first byte
 pub no-tag : (count : ℕ) (rest : List ℕ) → length rest ≡ 0 → misplaced count rest ≡ false

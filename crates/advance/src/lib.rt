@@ -15,9 +15,15 @@ use states::State;
 use zonotope::Examined;
 
 mod conclusion;
-mod header;
+pub mod header;
 mod kinds;
 mod totals;
+
+// A field's header: how many bytes the field has, as many as the header says or all that are left, and whether it is there as a whole.
+pub struct Header {
+    pub bytes: usize,
+    pub whole: bool,
+}
 
 // An answer, the state that the field leaves, and whether a step was worked out in the work slices.
 pub struct Advanced {
@@ -34,14 +40,14 @@ pub fn advance(st: State, place: usize, rest: &[u8], w: &mut [i64], e: &mut [u8]
     ensures numbers { λ r. ⌜ Used (r .worked) (pos 0) workNumbers (now (w .entry)) (now (w .exit)) ⌝ }
     ensures exponents { λ r. ⌜ Used (r .worked) 0 workExponents (now (e .entry)) (now (e .exit)) ⌝ }
 {
-    let bytes = header::field_bytes(rest);
+    let h = header::read(rest);
     if st.over {
-        return conclusion::skipped(st, bytes);
+        return conclusion::skipped(st, h.bytes);
     }
-    let o = header::of_header(st.count, rest);
+    let o = header::of_header(st.count, rest, h.whole);
     match o {
-        Examined::Refused(number) => conclusion::refused(st, place, bytes, number, false),
-        Examined::Accepted => whole(st, place, rest, bytes, w, e),
+        Examined::Refused(number) => conclusion::refused(st, place, h.bytes, number, false),
+        Examined::Accepted => whole(st, place, rest, h.bytes, w, e),
     }
 }
 

@@ -13,9 +13,6 @@ ghost use Rattle.feeding.specs.Reached.{Reached, Placed, longestField};
 ghost use Rattle.feeding.specs.Done.{Done};
 use states::State;
 
-// A field's tag and length.
-const HEADER: usize = 3;
-
 // How far a run has come: its state, the position of the next field's first byte, and whether its last line was given.
 pub struct Progress {
     pub state: State,
@@ -90,8 +87,8 @@ fn turn(
     if (rest.len() == 0) & (count != 0) {
         return close(p, out, at);
     }
-    let bytes = first_length(rest);
-    take(p, rest, bytes, out, at, numbers, exponents)
+    let h = advance::header::read(rest);
+    take(p, rest, h.bytes, out, at, numbers, exponents)
 }
 
 // The totals of what folding added, and the `end` line.
@@ -148,24 +145,8 @@ fn take(
 pub fn is_whole(rest: &[u8]) -> bool
     ensures { λ r. ⌜ (r ≡ not (cut (now (rest .entry)))) × (r ≡ false → length (now (rest .entry)) < longestField) ⌝ }
 {
-    if rest.len() < HEADER {
-        return false;
-    }
-    HEADER + words::short_at(rest, 1) <= rest.len()
-}
-
-// The length of the first field.
-fn first_length(rest: &[u8]) -> usize
-    ensures { λ r. ⌜ (r ≡ length (firstField (now (rest .entry)))) × (r ≤ longestField) ⌝ }
-{
-    if rest.len() < HEADER {
-        return rest.len();
-    }
-    let n = HEADER + words::short_at(rest, 1);
-    if rest.len() < n {
-        return rest.len();
-    }
-    n
+    let h = advance::header::read(rest);
+    h.whole
 }
 
 // Whether another turn can be made.

@@ -19,9 +19,9 @@ use Rattle.model.specs.Finish.{dropZeroGenerators, foldHigh, foldTerms, 
 use Rattle.model.specs.Operations.{disturb, reduce}
 use Rattle.model.specs.Bytes.{number, word}
 use Rattle.model.specs.Body.{givenSet, givenRadii, disturbanceWords}
+use Rattle.model.specs.Described.{within}
 use Rattle.model.specs.Field.{disturbance, negative, beyond, allZero, meaning}
 use Rattle.model.proofs.Accepted.{holdsAt}
-use Rattle.model.proofs.Laws.{within}
 use Rattle.model.proofs.Kind.{laws}
 use Rattle.model.specs.Run.{tag, body, current}
 use Rattle.model.specs.Run.{State, begin, kindOf, Cause, firstOf, misplaced, cut, causes, refusal, withFolds, after, run, fields}

@@ -19,6 +19,7 @@ use Rattle.model.specs.Set.{Zonotope, radius}
 use Rattle.model.specs.Valid.{rises}
 use Rattle.model.specs.Operations.{box}
 use Rattle.model.specs.Body.{dimension, stepRows, stepColumns, givenStep, givenWidths, givenHalfspaces}
+use Rattle.model.specs.Described.{bodyOrder, within}
 use Rattle.model.specs.Field.{Kind, check, rangedStep, unknown, describe, Outcome, inside, verdict, refused, skipped}
 use Rattle.model.specs.Field.{Meaning, meaning, badDimension}
 use Rattle.model.specs.Run.{Cause, ofBody}
@@ -160,16 +161,6 @@ values-range (c ∷ cs) next (more h t) w j = cond-range (eqb j next) h (values-
     cond-range true h k = h
     cond-range false h k = k
 
--- ---- the order of causes
--- the first list is the second with some left out
-unfoldable pub within : List ℕ → List ℕ → Bool
-within [] l = true
-within (a ∷ k) [] = false
-within (a ∷ k) (c ∷ l) = cond (eqb a c) (within k l) (within (a ∷ k) l)
-
-abbrev pub inOrder : List Cause → Bool
-inOrder cs = within (map (λ c. c .number) cs) (3 ∷ 4 ∷ 3 ∷ 5 ∷ 6 ∷ 14 ∷ 7 ∷ 8 ∷ 9 ∷ 10 ∷ [])
-
 -- ---- the laws of a kind
 pub record Laws (k : Kind) : Type 0 where
   -- where the set that it is given is held and its tests are passed, what it leaves is held
@@ -179,7 +170,8 @@ pub record Laws (k : Kind) : Type 0 where
   pub alone : starts k ≡ true → (b : List ℕ) (next : ℕ) (s u : Zonotope) → meaning k b next s ≡ meaning k b next u
   pub goes-on : describe k .anew ≡ false → starts k ≡ false
   -- its causes are asked in the order of document 01, and only a disturbance has 14
-  pub in-order : (b : List ℕ) (next : ℕ) (s : Zonotope) (bytes : ℕ) → inOrder (ofBody (meaning k b next s) bytes) ≡ true
+  pub in-order : (b : List ℕ) (next : ℕ) (s : Zonotope) (bytes : ℕ)
+      → within (map (λ c. c .number) (ofBody (meaning k b next s) bytes)) bodyOrder ≡ true
   pub only-three : (b : List ℕ) (next : ℕ) (s : Zonotope) (bytes : ℕ) → eqb (describe k .tag) 3 ≡ false
       → any (λ c. eqb (c .number) 14) (ofBody (meaning k b next s) bytes) ≡ false
   -- the coordinates of its result are those that its body counts

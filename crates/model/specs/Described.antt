@@ -1,6 +1,6 @@
 -- What a kind of field is: what it asks of its body, in the order of the refusals, and what it gives; and where it takes a motion.
 use mathlib.Core.List.{List, [], _∷_}
-use mathlib.Core.Bool.{Bool, not, _||_}
+use mathlib.Core.Bool.{Bool, true, false, not, cond, _||_}
 use Prim.Native.Nat.{ℕ, _+_, _/_}
 use lib.Dec.{ltb, eqb}
 use lib.ListN.{length, getD}
@@ -39,6 +39,16 @@ pub record Cause : Type 0 where
 
 abbrev pub _if_ : ℕ → Bool → Cause
 n if b = record { number = n; holds = b }
+
+-- the order of a body's causes (document 01, with document 02's 14 after 6); a kind has some of them
+abbrev pub bodyOrder : List ℕ
+bodyOrder = 3 ∷ 4 ∷ 3 ∷ 5 ∷ 6 ∷ 14 ∷ 7 ∷ 8 ∷ 9 ∷ 10 ∷ []
+
+-- whether the first list is the second with some left out
+unfoldable pub within : List ℕ → List ℕ → Bool
+within [] l = true
+within (a ∷ k) [] = false
+within (a ∷ k) (c ∷ l) = cond (eqb a c) (within k l) (within (a ∷ k) l)
 
 -- what a field means where it is given a set and the next fresh identifier
 pub record Meaning : Type 0 where

@@ -14,6 +14,7 @@ use Rattle.rational.specs.Sum.{All}
 use Rattle.model.specs.Limits.{recordIdentifiers, firstFresh, lastFresh, maxDimension}
 use Rattle.model.specs.Set.{Zonotope}
 use Rattle.model.specs.Bytes.{byte}
+use Rattle.model.specs.Described.{within}
 use Rattle.model.specs.Field.{reduction}
 use Rattle.model.specs.Run.{run, begin, current, kindOf, tag, refusal, State, Cause, causes, fields, answers}
 use Rattle.model.specs.Rewrite.{emptyDisturbance, rewritten}
@@ -62,9 +63,9 @@ reduce-never-10 = Narrower.reduce-never-10
 pub reduction-never-10 : (fs : List (List ℕ)) (f : List ℕ) → kindOf (tag f) ≡ reduction → refusal (run fs begin) f ≡ some 10 → ⊥
 reduction-never-10 = Narrower.reduction-never-10
 
--- A field's causes of refusal are asked in this order.
+-- A field's causes of refusal are asked in this order; a kind has some of them.
 pub order-of-causes : (st : State) (f : List ℕ)
-    → map (λ (c : Cause). c .number) (causes st f) ≡ 12 ∷ 2 ∷ 1 ∷ 3 ∷ 4 ∷ 3 ∷ 5 ∷ 6 ∷ 14 ∷ 7 ∷ 8 ∷ 9 ∷ 10 ∷ []
+    → within (map (λ (c : Cause). c .number) (causes st f)) (12 ∷ 2 ∷ 1 ∷ 3 ∷ 4 ∷ 3 ∷ 5 ∷ 6 ∷ 14 ∷ 7 ∷ 8 ∷ 9 ∷ 10 ∷ []) ≡ true
 order-of-causes = EmptyRun.order-of-causes
 
 -- Those of radii that a call is given, in this one.

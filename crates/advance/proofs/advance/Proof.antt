@@ -9,8 +9,8 @@ use borrow.Author.Needs.{needs}
 use Rattle.advance.proofs.advance.Statement.{statement}
 use Rattle.advance.proofs.advance.Tie as tie
 
-field-bytes-requires : tie.Need-field-bytes-requires
-field-bytes-requires c κs = search needs
+read-requires : tie.Need-read-requires
+read-requires c κs = search needs
 
 skipped-requires : tie.Need-skipped-requires
 skipped-requires c κs = search needs
@@ -18,12 +18,12 @@ skipped-requires c κs = search needs
 returns : tie.Need-returns
 returns c =
     let i = c .before in let f = i .before in let a = f .before .before .before .args in (
-      skipped-advanced (a .st) (a .place) (firstField (a .rest .now)) (i .if1 .taken) (f .field-bytes .ensures) (c .skipped .ensures),
+      skipped-advanced (a .st) (a .place) (firstField (a .rest .now)) (i .if1 .taken) (f .read .ensures .bytes) (c .skipped .ensures),
       (not-used _ (pos 0) workNumbers _, not-used _ 0 workExponents _),
     )
 
 of-header-requires : tie.Need-of-header-requires
-of-header-requires c κs = search needs
+of-header-requires c κs = c .before .read .ensures .whole
 
 enum-known-o : tie.Need-enum-known-o
 enum-known-o c = search needs
@@ -41,7 +41,7 @@ whole-requires c κs =
       s .pre .0,
       i .if1 .left,
       accepted _ (sym (h .of-header .ensures) ∙ t .enum-told .given .1),
-      f .field-bytes .ensures,
+      f .read .ensures .bytes,
       s .pre .1,
       s .pre .2,
     )
@@ -51,7 +51,7 @@ returns-2 c =
     let o = c .before .before in let h = o .before .before in let i = h .before in let f = i .before in
     let a = f .before .before .before .args in (
       refused-advanced (a .st) (firstField (a .rest .now)) (i .if1 .left)
-          (refused-with _ _ (sym (h .of-header .ensures) ∙ o .o .given .1)) (a .place) (f .field-bytes .ensures) (c .refused .ensures),
+          (refused-with _ _ (sym (h .of-header .ensures) ∙ o .o .given .1)) (a .place) (f .read .ensures .bytes) (c .refused .ensures),
       (not-used _ (pos 0) workNumbers _, not-used _ 0 workExponents _),
     )
 
@@ -68,7 +68,7 @@ pub advance-spec : {M : Type 1} → statement M
 advance-spec =
     tie.close
     (tie.spec
-    field-bytes-requires
+    read-requires
     skipped-requires
     returns
     of-header-requires

@@ -21,8 +21,8 @@ returns c =
     let rest = now (s .args .rest) in
     (turn-done p rest (turned-closed p rest (k .before .before .if1 .taken)) (k .close .ensures), closed-placed p (k .close .ensures))
 
-first-length-requires : tie.Need-first-length-requires
-first-length-requires c κs = search needs
+read-requires : tie.Need-read-requires
+read-requires c κs = search needs
 
 take-requires : tie.Need-take-requires
 take-requires c κs = search needs
@@ -52,7 +52,7 @@ turn-spec =
     close-requires
     same-length
     returns
-    first-length-requires
+    read-requires
     take-requires
     same-length-2
     same-length-3

@@ -8,13 +8,14 @@ use Rattle.whole.specs.Tab.{any}
 use Rattle.rational.specs.Sum as Sum
 use Rattle.model.specs.Operations.{safe}
 use Rattle.model.specs.Body.{givenHalfspaces}
+use Rattle.model.specs.Described.{within}
 use Rattle.model.specs.Field.{check, meaning}
 use Rattle.model.specs.Motion.{offsetLimit, move, withValues, valuesAfter, markAfter, Unsafe}
 use Rattle.model.specs.Promised.{coordinatesAfter}
 use Rattle.model.specs.Origin.{ruled}
 use Rattle.model.proofs.Accepted.{holdsAt, same}
 use Rattle.model.proofs.SafePoint.{safe-point}
-use Rattle.model.proofs.Laws.{Laws, within, same-next, with-verdict}
+use Rattle.model.proofs.Laws.{Laws, same-next, with-verdict}
 
 pub laws : Laws check
 unfolding meaning coordinatesAfter markAfter valuesAfter move offsetLimit ruled withValues holdsAt within any

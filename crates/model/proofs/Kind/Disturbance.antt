@@ -7,6 +7,7 @@ use Rattle.whole.specs.Tab.{any}
 use Rattle.rational.specs.Sum as Sum
 use Rattle.model.specs.Operations.{disturb}
 use Rattle.model.specs.Body.{givenRadii}
+use Rattle.model.specs.Described.{within}
 use Rattle.model.specs.Field.{disturbance, meaning}
 use Rattle.model.specs.Motion.{offsetLimit, move, withValues, valuesAfter, markAfter}
 use Rattle.model.specs.Promised.{coordinatesAfter}
@@ -15,7 +16,7 @@ use Rattle.model.proofs.Radii.{radius-disturbed}
 use Rattle.model.proofs.Held.{disturb-held}
 use Rattle.model.proofs.Accepted.{holdsAt, same, given-radii}
 use Rattle.model.proofs.SumPoints.{disturbed-point}
-use Rattle.model.proofs.Laws.{Laws, within, same-next, with-box, no-verdict}
+use Rattle.model.proofs.Laws.{Laws, same-next, with-box, no-verdict}
 
 pub laws : Laws disturbance
 unfolding meaning coordinatesAfter markAfter valuesAfter move offsetLimit ruled withValues holdsAt within any disturb

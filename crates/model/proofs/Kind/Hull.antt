@@ -13,6 +13,7 @@ use Rattle.model.specs.Hull as Hull
 use Rattle.model.specs.Hull.{blended}
 use Rattle.model.specs.Body.{givenSet}
 use Rattle.model.specs.Points.{Vector, Point}
+use Rattle.model.specs.Described.{within}
 use Rattle.model.specs.Field.{hull, meaning}
 use Rattle.model.specs.Motion.{bodyPoint, offsetLimit, between, move, withValues, freshValues, valuesAfter, markAfter}
 use Rattle.model.specs.Promised.{coordinatesAfter}
@@ -24,7 +25,7 @@ use Rattle.model.proofs.Values.{same-values}
 use Rattle.model.proofs.HullPoint.{hull-point}
 use Rattle.model.proofs.RadiusRules.{blended-remainder, settled-radius, finished-radius, finished-in, rounded-in, blended-in}
 use Rattle.model.proofs.Coordinates.{hull-coordinates}
-use Rattle.model.proofs.Laws.{Laws, within, file-in, with-box, no-verdict, body-point, body-same, file-agrees, agree-below, rising}
+use Rattle.model.proofs.Laws.{Laws, file-in, with-box, no-verdict, body-point, body-same, file-agrees, agree-below, rising}
 use Rattle.model.proofs.Laws.{old-value, values-range}
 
 pub laws : Laws hull

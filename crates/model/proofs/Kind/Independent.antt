@@ -14,6 +14,7 @@ use Rattle.model.specs.Limits.{standardWeights}
 use Rattle.model.specs.Operations.{joined, tiedSum, renumbered, independentSum}
 use Rattle.model.specs.Body.{givenSet}
 use Rattle.model.specs.Points.{Vector, InRange}
+use Rattle.model.specs.Described.{within}
 use Rattle.model.specs.Field.{independent, meaning}
 use Rattle.model.specs.Motion.{Picks, offsetLimit, move, withValues, freshValues, valuesAfter, markAfter}
 use Rattle.model.specs.Promised.{coordinatesAfter}
@@ -25,7 +26,7 @@ use Rattle.model.proofs.Accepted.{holdsAt, same, given-dimension, given
 use Rattle.model.proofs.SumPoints.{independent-point}
 use Rattle.model.proofs.RadiusRules.{given-radius, renumbered-radius, joined-radius, finished-radius, finished-in, joined-in}
 use Rattle.model.proofs.Coordinates.{independent-coordinates}
-use Rattle.model.proofs.Laws.{Laws, SameAt, within, with-box, no-verdict, body-point, body-same, rising, old-value, new-value}
+use Rattle.model.proofs.Laws.{Laws, SameAt, with-box, no-verdict, body-point, body-same, rising, old-value, new-value}
 use Rattle.model.proofs.Laws.{values-range}
 
 abbrev own : ℕ → Picks → ℕ → ℚ

@@ -10,6 +10,7 @@ use Rattle.model.specs.Step.{rounded}
 use Rattle.model.specs.Ranged as Ranged
 use Rattle.model.specs.Ranged.{gain, gainingRaw, gainingStep}
 use Rattle.model.specs.Body.{stepColumns, givenStep, givenWidths}
+use Rattle.model.specs.Described.{within}
 use Rattle.model.specs.Field.{rangedStep, meaning}
 use Rattle.model.specs.Motion.{offsetLimit, move, withValues, valuesAfter, markAfter}
 use Rattle.model.specs.Promised.{coordinatesAfter}
@@ -22,7 +23,7 @@ use Rattle.model.proofs.RangedPoint.{ranged-point}
 use Rattle.model.proofs.RadiusRules.{gaining-remainder, gaining-inexact, settled-radius, finished-radius, finished-in, rounded-in}
 use Rattle.model.proofs.RadiusRules.{raw-in}
 use Rattle.model.proofs.Coordinates.{ranged-coordinates}
-use Rattle.model.proofs.Laws.{Laws, within, same-next, rows-in, with-box, no-verdict}
+use Rattle.model.proofs.Laws.{Laws, same-next, rows-in, with-box, no-verdict}
 
 pub laws : Laws rangedStep
 unfolding meaning coordinatesAfter markAfter valuesAfter move offsetLimit ruled withValues holdsAt within any

@@ -10,6 +10,7 @@ use Rattle.rational.specs.Sum as Sum
 use Rattle.model.specs.Limits.{maxTerms, maxGenerators, standardWeights}
 use Rattle.model.specs.Operations.{reduce}
 use Rattle.model.specs.Body.{termLimit, generatorLimit}
+use Rattle.model.specs.Described.{within}
 use Rattle.model.specs.Field.{reduction, meaning}
 use Rattle.model.specs.Motion.{offsetLimit, move, withValues, valuesAfter, markAfter}
 use Rattle.model.specs.Promised.{coordinatesAfter}
@@ -21,7 +22,7 @@ use Rattle.model.proofs.Accepted.{holdsAt}
 use Rattle.model.proofs.FinishCovers.{finish-covers}
 use Rattle.model.proofs.RadiusRules.{reduced-in}
 use Rattle.model.proofs.Coordinates.{reduced-coordinates}
-use Rattle.model.proofs.Laws.{Laws, within, same-next, with-box, no-verdict}
+use Rattle.model.proofs.Laws.{Laws, same-next, with-box, no-verdict}
 
 pub laws : Laws reduction
 unfolding meaning coordinatesAfter markAfter valuesAfter move offsetLimit ruled withValues holdsAt within any reduce

@@ -8,6 +8,7 @@ use Rattle.rational.specs.Sum as Sum
 use Rattle.rational.specs.Sum.{All-imp}
 use Rattle.model.specs.Body.{givenSet}
 use Rattle.model.specs.Points.{Vector}
+use Rattle.model.specs.Described.{within}
 use Rattle.model.specs.Field.{start, meaning}
 use Rattle.model.specs.Motion.{offsetLimit, move, withValues, valuesAfter, markAfter}
 use Rattle.model.specs.Promised.{coordinatesAfter}
@@ -17,7 +18,7 @@ use Rattle.model.proofs.Held.{held}
 use Rattle.model.proofs.Accepted.{holdsAt, given-dimension, given-valid}
 use Rattle.model.proofs.Values.{same-values}
 use Rattle.model.proofs.RadiusRules.{given-radius}
-use Rattle.model.proofs.Laws.{Laws, within, same-next, file-in, with-box, no-verdict, body-point, body-same, file-agrees}
+use Rattle.model.proofs.Laws.{Laws, same-next, file-in, with-box, no-verdict, body-point, body-same, file-agrees}
 
 pub laws : Laws start
 unfolding meaning coordinatesAfter markAfter valuesAfter move offsetLimit ruled withValues holdsAt within any

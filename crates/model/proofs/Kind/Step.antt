@@ -9,6 +9,7 @@ use Rattle.model.specs.Limits.{maxTerms, maxGenerators, standardWeights}
 use Rattle.model.specs.Step as Step
 use Rattle.model.specs.Step.{raw, rounded}
 use Rattle.model.specs.Body.{givenStep}
+use Rattle.model.specs.Described.{within}
 use Rattle.model.specs.Field.{step, meaning}
 use Rattle.model.specs.Motion.{offsetLimit, move, withValues, valuesAfter, markAfter}
 use Rattle.model.specs.Promised.{coordinatesAfter}
@@ -20,7 +21,7 @@ use Rattle.model.proofs.FinishCovers.{finish-covers}
 use Rattle.model.proofs.StepPoint.{step-point}
 use Rattle.model.proofs.RadiusRules.{raw-remainder, settled-radius, finished-radius, finished-in, rounded-in, raw-in}
 use Rattle.model.proofs.Coordinates.{step-coordinates}
-use Rattle.model.proofs.Laws.{Laws, within, same-next, rows-in, with-box, no-verdict}
+use Rattle.model.proofs.Laws.{Laws, same-next, rows-in, with-box, no-verdict}
 
 pub laws : Laws step
 unfolding meaning coordinatesAfter markAfter valuesAfter move offsetLimit ruled withValues holdsAt within any Step.step givenStep

@@ -10,6 +10,7 @@ use Rattle.model.specs.Limits.{standardWeights}
 use Rattle.model.specs.Operations.{joined, tiedSum}
 use Rattle.model.specs.Body.{givenSet}
 use Rattle.model.specs.Points.{Vector}
+use Rattle.model.specs.Described.{within}
 use Rattle.model.specs.Field.{tied, meaning}
 use Rattle.model.specs.Motion.{offsetLimit, move, withValues, valuesAfter, markAfter}
 use Rattle.model.specs.Promised.{coordinatesAfter}
@@ -21,7 +22,7 @@ use Rattle.model.proofs.Values.{same-values}
 use Rattle.model.proofs.SumPoints.{tied-point}
 use Rattle.model.proofs.RadiusRules.{given-radius, joined-radius, finished-radius, finished-in, joined-in}
 use Rattle.model.proofs.Coordinates.{tied-coordinates}
-use Rattle.model.proofs.Laws.{Laws, within, same-next, file-in, with-box, no-verdict, body-point, body-same, file-agrees, rising}
+use Rattle.model.proofs.Laws.{Laws, same-next, file-in, with-box, no-verdict, body-point, body-same, file-agrees, rising}
 
 pub laws : Laws tied
 unfolding meaning coordinatesAfter markAfter valuesAfter move offsetLimit ruled withValues holdsAt within any tiedSum

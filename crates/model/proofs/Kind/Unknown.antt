@@ -5,12 +5,13 @@ use native.Mathlib.Nat.{add-zero}
 use native.Mathlib.Omega.{arith}
 use Rattle.whole.specs.Tab.{any}
 use Rattle.rational.specs.Sum as Sum
+use Rattle.model.specs.Described.{within}
 use Rattle.model.specs.Field.{unknown, meaning}
 use Rattle.model.specs.Motion.{offsetLimit, move, withValues, valuesAfter, markAfter}
 use Rattle.model.specs.Promised.{coordinatesAfter}
 use Rattle.model.specs.Origin.{ruled}
 use Rattle.model.proofs.Accepted.{holdsAt}
-use Rattle.model.proofs.Laws.{Laws, within, same-next, with-nothing, no-verdict}
+use Rattle.model.proofs.Laws.{Laws, same-next, with-nothing, no-verdict}
 
 pub laws : Laws unknown
 unfolding meaning coordinatesAfter markAfter valuesAfter move offsetLimit ruled withValues holdsAt within any

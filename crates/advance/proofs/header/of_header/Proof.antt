@@ -4,13 +4,17 @@ use borrow.Author.Needs.{needs}
 use mathlib.Core.Path.{_≡_, _∙_, sym}
 use mathlib.Core.Bool.{Bool}
 use Rattle.model.specs.Run.{misplaced}
-use Rattle.advance.specs.HeaderLaws.{no-tag, with-tag, too-late, wrong-tag, too-short, nothing-wrong}
+use Rattle.advance.specs.HeaderLaws.{is-cut, is-there, no-tag, with-tag, too-late, wrong-tag, too-short, nothing-wrong}
 use Rattle.advance.proofs.header.of_header.Statement.{statement}
 use Rattle.advance.proofs.header.of_header.Tie as tie
 
+-- where the tag was asked for: what the call was given
+abbrev start : tie.After-misplaced → tie.Start
+start s = s .before .before .before .before .before
+
 -- whether the tag is misplaced, where the code's answer is b
 tags : (s : tie.After-misplaced) {b : Bool} → s .misplaced .result ≡ b
-    → (let a = s .before .before .before .before .before .args in misplaced (a .count) (a .rest .now) ≡ b)
+    → (let a = start s .args in misplaced (a .count) (a .rest .now) ≡ b)
 tags s e = with-tag _ _ (omega (arith, s .before .before .if2 .left)) ∙ sym (s .misplaced .ensures) ∙ e
 
 returns : tie.Need-returns
@@ -34,27 +38,12 @@ returns-3 c = wrong-tag _ _ (c .before .before .before .before .if1 .left) (tags
 returns-4 : tie.Need-returns-4
 returns-4 c =
     let t = c .before .before in
-    too-short _ _ (t .before .before .before .if1 .left) (tags t (c .before .if3 .left)) (omega (arith, c .if4 .taken))
-
-short-at-requires : tie.Need-short-at-requires
-short-at-requires c κs = search needs
-
-add-if5 : tie.Need-add-if5
-add-if5 c = search needs
+    nothing-wrong _ _ (t .before .before .before .if1 .left) (tags t (c .before .if3 .left)) (is-there _ (start t .pre) (c .if4 .taken))
 
 returns-5 : tie.Need-returns-5
 returns-5 c =
-    let e = c .before .before .before in
-    let t = e .before in
-    too-short _ _ (t .before .before .before .if1 .left) (tags t (e .if3 .left))
-    (omega (arith, c .if5 .taken, c .before .short-at .ensures .0))
-
-returns-6 : tie.Need-returns-6
-returns-6 c =
-    let e = c .before .before .before in
-    let t = e .before in
-    nothing-wrong _ _ (t .before .before .before .if1 .left) (tags t (e .if3 .left))
-    (omega (arith, c .if5 .left, c .before .short-at .ensures .0))
+    let t = c .before .before in
+    too-short _ _ (t .before .before .before .if1 .left) (tags t (c .before .if3 .left)) (is-cut _ (start t .pre) (c .if4 .left))
 
 pub of-header-spec : {M : Type 1} → statement M
 of-header-spec =
@@ -66,7 +55,4 @@ of-header-spec =
     misplaced-requires
     returns-3
     returns-4
-    short-at-requires
-    add-if5
-    returns-5
-    returns-6)
+    returns-5)
