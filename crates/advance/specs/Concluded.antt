@@ -3,8 +3,7 @@ use mathlib.Core.Path.{_≡_, refl, sym, _∙_, ap, subst}
 use mathlib.Core.List.{List}
 use mathlib.Core.Option.{Option, none, some}
 use mathlib.Core.Bool.{Bool, true, false, cond, not, _&&_, _||_, true≢false}
-use Prim.Native.Nat.{ℕ, zero, suc, _+_, _<_, _≤_}
-use native.Mathlib.Omega.{arith}
+use Prim.Native.Nat.{ℕ, _+_, _<_, _≤_}
 use borrow.Author.Tests.{ltb-true, ltb-false, not-false}
 use lib.Dec.{ltb}
 use lib.ListN.{length}
@@ -16,7 +15,7 @@ use Rattle.model.specs.Operations.{Box, box}
 use Rattle.model.specs.Field as Model
 use Rattle.model.specs.Field.{Kind, unknown, inside, verdict, refused, skipped, meaning, describe}
 use Rattle.model.specs.Run.{tag, body, kindOf, current, refusal, meant, acceptedBy, refusedAt, after, outcome, firstOf}
-use Rattle.model.specs.Run.{causes, ofBody, misplaced, cut, withFolds}
+use Rattle.model.specs.Run.{causes, ofBody, withFolds}
 use Rattle.model.proofs.Tests.{any-false, no-cause}
 use Rattle.model.proofs.Shape as Shape
 use Rattle.model.proofs.Held.{Held, held}
@@ -24,7 +23,6 @@ use Rattle.model.proofs.Accepted.{Passed, body-passed}
 use Rattle.model.proofs.Answers.{Answers, with-box, with-verdict, with-nothing}
 use Rattle.model.proofs.ByKind.{starts, leaves}
 use Rattle.model.proofs.Kind.{laws}
-use Rattle.zonotope.specs.declared.PolyZonotope.{PolyZonotope}
 use Rattle.zonotope.specs.Record.{view, pack}
 use Rattle.zonotope.specs.Counts.{countable}
 use Rattle.zonotope.specs.Answer.{orElse, first-append}

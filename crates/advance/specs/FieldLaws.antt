@@ -11,7 +11,7 @@ use lib.ListN.{length, take, drop}
 use Rattle.whole.specs.Tests.{or-left, or-right}
 use Rattle.model.specs.Limits.{lastField, lastTag}
 use Rattle.model.specs.Bytes.{byte}
-use Rattle.model.specs.Field.{unknown, refused, skipped, describe}
+use Rattle.model.specs.Field.{refused, skipped, describe}
 use Rattle.model.specs.Run.{tag, body, kindOf, refusal, meant, acceptedBy, refusedAt, after, outcome, causes, ofBody, firstOf}
 use Rattle.model.specs.Run.{firstField, fieldLength, bodyLength, misplaced, cut}
 use Rattle.zonotope.specs.Answer.{orElse, first-append}

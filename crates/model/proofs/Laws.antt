@@ -22,7 +22,7 @@ use Rattle.model.specs.Body.{dimension, stepRows, stepColumns, givenStep
 use Rattle.model.specs.Described.{bodyOrder, within}
 use Rattle.model.specs.Field.{Kind, check, rangedStep, unknown, describe, Outcome, inside, verdict, refused, skipped}
 use Rattle.model.specs.Field.{Meaning, meaning, badDimension}
-use Rattle.model.specs.Run.{Cause, ofBody}
+use Rattle.model.specs.Run.{ofBody}
 use Rattle.model.specs.Points.{Vector, valueAt, Point, InRange}
 use Rattle.model.specs.Motion.{Picks, InWidths, bodyPoint, offsetLimit, move, withValues, freshValues, valuesAfter, markAfter, Unsafe}
 use Rattle.model.specs.Origin.{ruled}

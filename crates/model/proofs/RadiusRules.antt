@@ -1,28 +1,25 @@
 -- Radii before and after folding, by operation.
-use mathlib.Core.Path.{_≡_, refl, sym, _∙_}
-use mathlib.Core.List.{List, [], _∷_, map}
-use mathlib.Core.Bool.{Bool, true, false, cond}
-use mathlib.Core.Option.{Option, none, some}
+use mathlib.Core.Path.{_≡_, refl, _∙_}
+use mathlib.Core.List.{List, map}
 use Prim.Native.Nat.{ℕ, _+_, _*_, _/_, _<_}
-use native.Mathlib.Omega.{arith}
 use lib.ListN.{getD, List·getD-map}
 use lib.IntN.{pos, natAbs}
 use Rattle.whole.specs.Round.{scale}
 use Rattle.whole.specs.Tab.{getD-tab}
-use Rattle.model.specs.Limits.{maxDimension, maxTerms, maxGenerators, standardWeights}
-use Rattle.model.specs.Set.{Zonotope, at, radius, radiusOf, independentSize}
+use Rattle.model.specs.Limits.{maxTerms, maxGenerators, standardWeights}
+use Rattle.model.specs.Set.{Zonotope, at, radius, independentSize}
 use Rattle.model.specs.Finish.{collectTerms, dropZeroTerms, dropZeroGenerators, foldHigh, foldTerms, foldGenerators, dropUnused}
 use Rattle.model.specs.Finish.{finish}
 use Rattle.model.specs.Step as Step
 use Rattle.model.specs.Step.{Step, RawImage, raw, remainder, inexactAt, carriedAt, roundedAt, rounded}
-use Rattle.model.specs.Operations.{joined, tiedSum, renumbered, independentSum, reduce}
+use Rattle.model.specs.Operations.{joined, renumbered}
 use Rattle.model.specs.Ranged as Ranged
-use Rattle.model.specs.Ranged.{gain, gainingRaw, gainingStep}
+use Rattle.model.specs.Ranged.{gainingRaw}
 use Rattle.model.specs.Hull as Hull
 use Rattle.model.specs.Hull.{larger, blended}
-use Rattle.model.specs.Body.{dimension, radiusWords, givenSet, givenStep, givenWidths, givenRadii, termLimit, generatorLimit}
+use Rattle.model.specs.Body.{dimension, radiusWords, givenSet}
 use Rattle.model.specs.Field.{foldsOf}
-use Rattle.model.proofs.Radii.{blank-at, radius-given, radius-plus}
+use Rattle.model.proofs.Radii.{radius-given, radius-plus}
 use Rattle.model.proofs.Folding.{finish-radius}
 use Rattle.model.proofs.Rounded.{rounded-radius}
 

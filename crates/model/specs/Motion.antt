@@ -6,22 +6,17 @@ use Prim.Native.Nat.{ℕ, suc, _+_, _-_, _<_}
 use lib.Dec.{T, ltb, eqb}
 use lib.ListN.{length, getD}
 use lib.IntN.{pos}
-use Rattle.whole.specs.Round.{scale}
-use Rattle.whole.specs.Tab.{tab}
-use Rattle.rational.specs.Rational.{ℚ, _+ℚ_, _-ℚ_, _*ℚ_, ι, _over_, ½, 0ℚ, 1ℚ, _≤ℚ_}
+use Rattle.rational.specs.Rational.{ℚ, _*ℚ_, ι, 0ℚ, 1ℚ, _≤ℚ_}
 use Rattle.rational.specs.Bounds.{Within}
-use Rattle.rational.specs.Near.{Near}
 use Rattle.rational.specs.Sum.{sum, All}
-use Rattle.model.specs.Set.{Zonotope, at, radius}
-use Rattle.model.specs.Step.{Step, linearAt, quadraticAt}
-use Rattle.model.specs.Ranged.{Widths, linearWidth, quadraticWidth}
+use Rattle.model.specs.Set.{at}
 use Rattle.model.specs.Operations.{Box, Halfspace}
 use Rattle.model.specs.Limits.{firstFresh}
-use Rattle.model.specs.Body.{dimension, factors, givenSet, givenStep, givenWidths, givenRadii, givenHalfspaces}
+use Rattle.model.specs.Body.{dimension, givenStep, givenWidths, givenHalfspaces}
 use Rattle.model.specs.Field.{Kind, rangedStep, describe}
 use Rattle.model.specs.Field.{inside, verdict}
 use Rattle.model.specs.Run.{State, begin, current, tag, body, kindOf, accepted, after, outcome}
-use Rattle.model.specs.Points.{Vector, valueAt, Point, InRange}
+use Rattle.model.specs.Points.{Vector, Point, InRange}
 pub use Rattle.model.specs.Moving.{Picks, InWidths, bodyPoint, places, imageBy, between}
 unfoldable pub use Rattle.model.specs.Moving.{image}
 

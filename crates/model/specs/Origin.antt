@@ -3,16 +3,10 @@
 use mathlib.Core.Path.{_≡_}
 use mathlib.Core.List.{List, [], _∷_}
 use mathlib.Core.Bool.{cond}
-use Prim.Native.Nat.{ℕ, _+_, _/_, _<_, _≤_}
+use Prim.Native.Nat.{ℕ, _+_, _<_, _≤_}
 use lib.ListN.{getD}
-use lib.IntN.{natAbs}
-use Rattle.whole.specs.Round.{scale}
 use Rattle.model.specs.Limits.{maxDimension, maxTotal}
-use Rattle.model.specs.Set.{Zonotope, at, independentSize}
-use Rattle.model.specs.Step.{raw, remainder, inexactAt}
-use Rattle.model.specs.Ranged.{gain}
-use Rattle.model.specs.Hull.{larger, blended}
-use Rattle.model.specs.Body.{radiusWords, givenSet, givenStep, givenWidths, stepColumns, givenRadii}
+use Rattle.model.specs.Set.{Zonotope}
 use Rattle.model.specs.Field.{Kind, describe}
 pub use Rattle.model.specs.Described.{unitsOf, halfOf}
 use Rattle.model.specs.Run.{State, begin, current, tag, body, kindOf, meant, accepted, after, run}

@@ -9,13 +9,11 @@ use lib.ListN.{length, take, drop, length-drop, length-take}
 use lib.Seq.{take-all}
 use lib.IntN.{ℤ, pos}
 use Rattle.model.specs.Run as Model
-use Rattle.model.specs.Run.{begin, after, firstField, fieldLength, fields, run}
-use Rattle.model.proofs.Sound.{Sound, after-sound}
+use Rattle.model.specs.Run.{begin, after, firstField, fieldLength, fields}
 use Rattle.model.proofs.Cutting.{goes-on}
 use Rattle.whole.specs.Tests.{or-left}
 use Rattle.states.specs.declared.State.{State}
 use Rattle.states.specs.declared.Answer.{Answer}
-use Rattle.states.specs.State.{recordOf}
 use Rattle.states.specs.Answer.{answerOf}
 use Rattle.states.specs.Taken.{taken}
 use Rattle.stepping.specs.Work.{workNumbers, workExponents}

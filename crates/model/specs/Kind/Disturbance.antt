@@ -5,7 +5,7 @@ use Prim.Native.Nat.{_+_, _*_}
 use lib.Dec.{ltb}
 use lib.ListN.{getD}
 use Rattle.whole.specs.Tab.{any}
-use Rattle.rational.specs.Rational.{ℚ, _+ℚ_}
+use Rattle.rational.specs.Rational.{_+ℚ_}
 use Rattle.model.specs.Limits.{maxDisturbance}
 use Rattle.model.specs.Operations.{disturb, box}
 use Rattle.model.specs.Body.{dimension, disturbanceWords, givenRadii}

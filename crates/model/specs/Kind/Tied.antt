@@ -3,7 +3,7 @@ use mathlib.Core.List.{[]}
 use mathlib.Core.Bool.{false}
 use Prim.Native.Nat.{_+_}
 use lib.IntN.{natAbs}
-use Rattle.rational.specs.Rational.{ℚ, _+ℚ_}
+use Rattle.rational.specs.Rational.{_+ℚ_}
 use Rattle.model.specs.Limits.{standardWeights}
 use Rattle.model.specs.Set.{at, radius}
 use Rattle.model.specs.Operations.{joined, tiedSum}

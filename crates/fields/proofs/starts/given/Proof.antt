@@ -1,5 +1,5 @@
 -- `starts::given` meets its contract.
-use mathlib.Core.Path.{_≡_, sym, _∙_}
+use mathlib.Core.Path.{sym, _∙_}
 use Rattle.model.specs.Body.{givenSet}
 use Rattle.model.specs.Field.{start, meaning}
 use Rattle.model.specs.Run.{noSet, firstOf}
@@ -7,7 +7,6 @@ use Rattle.zonotope.specs.Record.{pack}
 use Rattle.answers.specs.Answer.{none-refuses, answer-next}
 use Rattle.fields.specs.Refusal.{resultOf}
 use Rattle.fields.specs.Sets.{ofLayout, ofContents, start-order, refused-empty, set-body}
-use native.Mathlib.Omega.{arith}
 use borrow.Author.Needs.{needs}
 use Rattle.fields.proofs.starts.given.Statement.{statement}
 use Rattle.fields.proofs.starts.given.Tie as tie
