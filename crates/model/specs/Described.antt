@@ -152,21 +152,23 @@ halfOf count = (count + 1) / 2
 
 -- ---- a kind; `b` is a field's body, `m` its number
 pub record Described : Type 0 where
+  -- ---- what the field does
   -- its tag; 0 where the tag is unknown
   pub tag : ℕ
   -- what it means where it is given a next fresh identifier and a set
   pub meaning : List ℕ → ℕ → Zonotope → Meaning
-  -- the largest offset that it allows in coordinate i; a field that uses none allows 0
-  pub offsetLimit : List ℕ → ℕ → ℕ
-  -- how many coordinates a position has after it, where it had n
-  pub coordinates : List ℕ → ℕ → ℕ
-  -- where it takes a motion
-  pub move : List ℕ → Picks → ℕ → Vector → Vector
-  -- the values of the identifiers that it makes fresh, in order, by the picks
-  pub fresh : List ℕ → List (Picks → ℕ → ℚ)
   -- whether it makes the parts of the radius anew
   pub anew : Bool
   -- whether it is worked out in the lent work slices
   pub works : Bool
   -- the radius of coordinate i after it, but for what folding adds: it was given the set s, and the radii were ρ before
   pub ruled : List ℕ → ℕ → Zonotope → (ℕ → ℕ) → ℕ → ℕ
+  -- ---- where a motion goes
+  -- the largest offset that it allows in coordinate i; a field that uses none allows 0
+  pub offsetLimit : List ℕ → ℕ → ℕ
+  -- where it takes a motion
+  pub move : List ℕ → Picks → ℕ → Vector → Vector
+  -- how many coordinates a position has after it, where it had n
+  pub coordinates : List ℕ → ℕ → ℕ
+  -- the values of the identifiers that it makes fresh, in order, by the picks
+  pub fresh : List ℕ → List (Picks → ℕ → ℚ)

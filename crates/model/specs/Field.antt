@@ -7,8 +7,7 @@ pub use Rattle.model.specs.Described.{allZero, badStepRange, badWidthRan
 pub use Rattle.model.specs.Described.{tooManyBlended, foldsOf, Described}
 unfoldable pub use Rattle.model.specs.Described.{beyondWith}
 pub use Rattle.model.specs.Kind.{Kind, start, step, disturbance, independent, tied, reduction, check, hull, rangedStep, unknown}
-pub use Rattle.model.specs.Kind.{describe}
-pub use Rattle.model.specs.Kind.{kinds}
+pub use Rattle.model.specs.Kind.{describe, kinds}
 
 unfoldable pub meaning : Kind → List ℕ → ℕ → Zonotope → Meaning
 meaning k b next s = describe k .meaning b next s

@@ -13,6 +13,7 @@ use Rattle.model.specs.Described.{_if_, inside, badDimension, beyond, ne
 
 abbrev pub kind : Described
 kind = record {
+  -- ---- what the field does
   tag = 3;
   meaning = λ b next s. let result = disturb (givenRadii b) s in record {
     causes = λ bytes.
@@ -28,11 +29,12 @@ kind = record {
     next = next;
     outcome = inside (box result);
   };
-  offsetLimit = λ b i. getD (givenRadii b) i 0;
-  coordinates = λ b n. n;
-  move = λ b p m x i. x i +ℚ p .offsets m i;
-  fresh = λ b. [];
   anew = false;
   works = false;
   ruled = λ b next s ρ i. ρ i + getD (givenRadii b) i 0;
+  -- ---- where a motion goes
+  offsetLimit = λ b i. getD (givenRadii b) i 0;
+  move = λ b p m x i. x i +ℚ p .offsets m i;
+  coordinates = λ b n. n;
+  fresh = λ b. [];
 }

@@ -14,16 +14,18 @@ use Rattle.model.specs.Described.{differs, ofSet, tooManyBlended, foldsO
 
 abbrev pub kind : Described
 kind = record {
+  -- ---- what the field does
   tag = 8;
   meaning = λ b next s.
       ofSet b (differs (dimension b) (s .dimension)) (tooManyBlended s (givenSet b))
       (Hull.hull standardWeights next s (givenSet b)) (foldsOf (Step.rounded (Hull.blended next s (givenSet b)))) (next + 1);
-  offsetLimit = λ b i. radius (givenSet b) i;
-  coordinates = λ b n. n;
-  move = λ b p m x i. between (p .blend m) x (bodyPoint p m (givenSet b) (p .values)) i;
-  fresh = λ b. (λ p m. p .blend m) ∷ [];
   anew = true;
   works = false;
   ruled = λ b next s ρ i.
       let u = givenSet b in larger (independentSize s i) (independentSize u i) + halfOf (inexactAt (blended next s u) i);
+  -- ---- where a motion goes
+  offsetLimit = λ b i. radius (givenSet b) i;
+  move = λ b p m x i. between (p .blend m) x (bodyPoint p m (givenSet b) (p .values)) i;
+  coordinates = λ b n. n;
+  fresh = λ b. (λ p m. p .blend m) ∷ [];
 }

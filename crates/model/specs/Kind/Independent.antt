@@ -13,15 +13,17 @@ use Rattle.model.specs.Described.{differs, ofSet, tooMany, foldsOf, Desc
 
 abbrev pub kind : Described
 kind = record {
+  -- ---- what the field does
   tag = 4;
   meaning = λ b next s.
       ofSet b (differs (dimension b) (s .dimension)) (tooMany s (renumbered next (givenSet b)))
       (independentSum standardWeights next s (givenSet b)) (foldsOf (joined s (renumbered next (givenSet b)))) (next + factors b);
-  offsetLimit = λ b i. radius (givenSet b) i;
-  coordinates = λ b n. n;
-  move = λ b p m x i. x i +ℚ bodyPoint p m (givenSet b) (p .own m) i;
-  fresh = λ b. map (λ k p m. p .own m k) (givenSet b .identifiers);
   anew = false;
   works = false;
   ruled = λ b next s ρ i. ρ i + natAbs (at (radiusWords b) i);
+  -- ---- where a motion goes
+  offsetLimit = λ b i. radius (givenSet b) i;
+  move = λ b p m x i. x i +ℚ bodyPoint p m (givenSet b) (p .own m) i;
+  coordinates = λ b n. n;
+  fresh = λ b. map (λ k p m. p .own m k) (givenSet b .identifiers);
 }

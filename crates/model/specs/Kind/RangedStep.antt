@@ -13,18 +13,20 @@ use Rattle.model.specs.Described.{badStepRange, badWidthRange, negativeW
 
 abbrev pub kind : Described
 kind = record {
+  -- ---- what the field does
   tag = 9;
   meaning = λ b next s.
       ofStepBody b (rangedLength b)
       (badStepRange (givenStep b) || (negativeWidth b || badWidthRange (givenStep b) (givenWidths b))) s next
       (Ranged.rangedStep standardWeights (givenStep b) (givenWidths b) s)
       (foldsOf (Step.rounded (Ranged.rangedRaw (givenStep b) (givenWidths b) s)));
-  offsetLimit = λ b i. 0;
-  coordinates = λ b n. stepRows b;
-  move = λ b p m x i. imageBy (givenStep b) (p .linear m) (p .quadratic m) x i;
-  fresh = λ b. [];
   anew = true;
   works = true;
   ruled = λ b next s ρ i.
       let p = givenStep b in unitsOf (remainder p s i + gain (stepColumns b) (givenWidths b) s i) + halfOf (inexactAt (raw p s) i);
+  -- ---- where a motion goes
+  offsetLimit = λ b i. 0;
+  move = λ b p m x i. imageBy (givenStep b) (p .linear m) (p .quadratic m) x i;
+  coordinates = λ b n. stepRows b;
+  fresh = λ b. [];
 }

@@ -10,6 +10,7 @@ use Rattle.model.specs.Described.{_if_, differs, inside, Described}
 
 abbrev pub kind : Described
 kind = record {
+  -- ---- what the field does
   tag = 6;
   meaning = λ b next s. let result = reduce standardWeights (termLimit b) (generatorLimit b) s in record {
     causes = λ bytes.
@@ -22,11 +23,12 @@ kind = record {
     next = next;
     outcome = inside (box result);
   };
-  offsetLimit = λ b i. 0;
-  coordinates = λ b n. n;
-  move = λ b p m x i. x i;
-  fresh = λ b. [];
   anew = false;
   works = false;
   ruled = λ b next s ρ i. ρ i;
+  -- ---- where a motion goes
+  offsetLimit = λ b i. 0;
+  move = λ b p m x i. x i;
+  coordinates = λ b n. n;
+  fresh = λ b. [];
 }

@@ -5,6 +5,7 @@ use Rattle.model.specs.Described.{_if_, differs, skipped, Described}
 
 abbrev pub kind : Described
 kind = record {
+  -- ---- what the field does
   tag = 0;
   meaning = λ b next s. record {
     causes = λ bytes.
@@ -15,11 +16,12 @@ kind = record {
     next = next;
     outcome = skipped;
   };
-  offsetLimit = λ b i. 0;
-  coordinates = λ b n. n;
-  move = λ b p m x i. x i;
-  fresh = λ b. [];
   anew = false;
   works = false;
   ruled = λ b next s ρ i. ρ i;
+  -- ---- where a motion goes
+  offsetLimit = λ b i. 0;
+  move = λ b p m x i. x i;
+  coordinates = λ b n. n;
+  fresh = λ b. [];
 }
