@@ -15,7 +15,7 @@ use states::State;
 use zonotope::Examined;
 
 mod conclusion;
-pub mod header;
+pub mod headers;
 mod kinds;
 mod totals;
 
@@ -40,11 +40,11 @@ pub fn advance(st: State, place: usize, rest: &[u8], w: &mut [i64], e: &mut [u8]
     ensures numbers { λ r. ⌜ Used (r .worked) (pos 0) workNumbers (now (w .entry)) (now (w .exit)) ⌝ }
     ensures exponents { λ r. ⌜ Used (r .worked) 0 workExponents (now (e .entry)) (now (e .exit)) ⌝ }
 {
-    let h = header::read(rest);
+    let h = headers::read(rest);
     if st.over {
         return conclusion::skipped(st, h.bytes);
     }
-    let o = header::of_header(st.count, rest, h.whole);
+    let o = headers::of_header(st.count, rest, h.whole);
     match o {
         Examined::Refused(number) => conclusion::refused(st, place, h.bytes, number, false),
         Examined::Accepted => whole(st, place, rest, h.bytes, w, e),

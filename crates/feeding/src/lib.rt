@@ -87,7 +87,7 @@ fn turn(
     if (rest.len() == 0) & (count != 0) {
         return close(p, out, at);
     }
-    let h = advance::header::read(rest);
+    let h = advance::headers::read(rest);
     take(p, rest, h.bytes, out, at, numbers, exponents)
 }
 
@@ -145,7 +145,7 @@ fn take(
 pub fn is_whole(rest: &[u8]) -> bool
     ensures { λ r. ⌜ (r ≡ not (cut (now (rest .entry)))) × (r ≡ false → length (now (rest .entry)) < longestField) ⌝ }
 {
-    let h = advance::header::read(rest);
+    let h = advance::headers::read(rest);
     h.whole
 }
 

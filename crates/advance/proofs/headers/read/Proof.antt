@@ -1,9 +1,9 @@
--- `header::read` meets its contract.
+-- `headers::read` meets its contract.
 use native.Mathlib.Omega.{arith}
 use borrow.Author.Needs.{needs}
 use Rattle.advance.specs.HeaderLaws.{header-cut, header-whole}
-use Rattle.advance.proofs.header.read.Statement.{statement}
-use Rattle.advance.proofs.header.read.Tie as tie
+use Rattle.advance.proofs.headers.read.Statement.{statement}
+use Rattle.advance.proofs.headers.read.Tie as tie
 
 returns : tie.Need-returns
 returns c = header-cut _ (omega (arith, c .if1 .taken)) (omega (arith, c .if1 .taken))

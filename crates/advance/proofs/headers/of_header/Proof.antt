@@ -1,12 +1,12 @@
--- `header::of_header` meets its contract.
+-- `headers::of_header` meets its contract.
 use native.Mathlib.Omega.{arith}
 use borrow.Author.Needs.{needs}
 use mathlib.Core.Path.{_≡_, _∙_, sym}
 use mathlib.Core.Bool.{Bool}
 use Rattle.model.specs.Run.{misplaced}
 use Rattle.advance.specs.HeaderLaws.{is-cut, is-there, no-tag, with-tag, too-late, wrong-tag, too-short, nothing-wrong}
-use Rattle.advance.proofs.header.of_header.Statement.{statement}
-use Rattle.advance.proofs.header.of_header.Tie as tie
+use Rattle.advance.proofs.headers.of_header.Statement.{statement}
+use Rattle.advance.proofs.headers.of_header.Tie as tie
 
 -- where the tag was asked for: what the call was given
 abbrev start : tie.After-misplaced → tie.Start

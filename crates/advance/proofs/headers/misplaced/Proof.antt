@@ -1,7 +1,7 @@
--- `header::misplaced` meets its contract.
+-- `headers::misplaced` meets its contract.
 use Rattle.advance.specs.HeaderLaws.{first-tag-is, later-tag-is}
-use Rattle.advance.proofs.header.misplaced.Statement.{statement}
-use Rattle.advance.proofs.header.misplaced.Tie as tie
+use Rattle.advance.proofs.headers.misplaced.Statement.{statement}
+use Rattle.advance.proofs.headers.misplaced.Tie as tie
 
 returns : tie.Need-returns
 returns c = first-tag-is _ _ (c .if1 .taken)
