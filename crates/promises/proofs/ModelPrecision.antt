@@ -31,7 +31,7 @@ use Rattle.model.proofs.FixedPoint as FixedPoint
 use Rattle.model.proofs.Finished as ModelFinished
 use Rattle.model.proofs.FirstBySize as ModelFirstBySize
 use Rattle.model.proofs.Narrower as Narrower
-use Rattle.model.proofs.Folds as Folds
+use Rattle.model.proofs.Folding as Folding
 
 -- The points of a tied sum that folds nothing are exactly the sums of points at the same factor values.
 pub tied-exact : (s u : Zonotope) → rises ltb (s .identifiers) ≡ true → s .dimension ≡ u .dimension → (weights : List ℕ)
@@ -88,9 +88,9 @@ finish-narrower = Narrower.finish-narrower
 -- What folding adds joins the folded parts.
 pub finish-folded : (weights : List ℕ) (h q : ℕ) (s : Zonotope)
     → finish weights h q s .radii .folded ≡ plusℕ (s .radii .folded) (folds weights h q s)
-finish-folded = Folds.finish-folded
+finish-folded = Folding.finish-folded
 
 -- Finishing leaves the other parts, so that a radius grows by what folding adds.
 pub finish-radius : (weights : List ℕ) (h q : ℕ) (s : Zonotope) (i : ℕ)
     → radius (finish weights h q s) i ≡ radius s i + getD (folds weights h q s) i 0
-finish-radius = Folds.finish-radius
+finish-radius = Folding.finish-radius
