@@ -11,9 +11,8 @@ use Rattle.whole.specs.Tab.{any}
 use Rattle.model.specs.Set.{Zonotope}
 use Rattle.model.specs.Finish.{those}
 use Rattle.model.specs.Operations.{box}
-use Rattle.model.specs.Field.{Outcome, inside, refused, skipped}
-use Rattle.model.specs.Run.{State, begin, current, meant, Cause, firstOf, causes, refusal, acceptedBy, refusedAt, after, outcome}
-use Rattle.model.specs.Run.{run, fields}
+use Rattle.model.specs.Field.{Outcome, inside}
+use Rattle.model.specs.Run.{State, begin, current, Cause, firstOf, causes, refusal, afterWith, after, outcomeWith, outcome, run, fields}
 use Rattle.model.specs.Rewrite.{emptyDisturbance, rewritten}
 
 -- ---- the old run
@@ -26,10 +25,10 @@ oldRefusal st f = firstOf (oldCauses st f)
 
 -- what a field left, and what was answered for it
 unfoldable pub oldAfter : State → List ℕ → State
-oldAfter st f = cond (st .over) st (elim (oldRefusal st f) [ none ↦ acceptedBy st (meant st f) | some n ↦ refusedAt st ])
+oldAfter st f = afterWith (oldRefusal st f) st f
 
 unfoldable pub oldOutcome : ℕ → State → List ℕ → Outcome
-oldOutcome place st f = cond (st .over) skipped (elim (oldRefusal st f) [ none ↦ meant st f .outcome | some n ↦ refused n place ])
+oldOutcome place st f = outcomeWith (oldRefusal st f) place st f
 
 -- a list of fields, each given the state that the last one left
 unfoldable pub oldRun : List (List ℕ) → State → State

@@ -111,13 +111,19 @@ acceptedBy st m = record {
 abbrev pub refusedAt : State → State
 refusedAt st = record { set = st .set; next = st .next; count = st .count; over = true; folded = st .folded }
 
--- after a refusal nothing changes
-unfoldable pub after : State → List ℕ → State
-after st f = cond (st .over) st (elim (refusal st f) [ none ↦ acceptedBy st (meant st f) | some n ↦ refusedAt st ])
+-- what a field leaves that is refused with this number, if any; after a refusal nothing changes
+abbrev pub afterWith : Option ℕ → State → List ℕ → State
+afterWith number st f = cond (st .over) st (elim number [ none ↦ acceptedBy st (meant st f) | some n ↦ refusedAt st ])
 
--- what is answered for a field whose first byte is at `place`
+unfoldable pub after : State → List ℕ → State
+after st f = afterWith (refusal st f) st f
+
+-- what is answered for it, where its first byte is at `place`
+abbrev pub outcomeWith : Option ℕ → ℕ → State → List ℕ → Outcome
+outcomeWith number place st f = cond (st .over) skipped (elim number [ none ↦ meant st f .outcome | some n ↦ refused n place ])
+
 unfoldable pub outcome : ℕ → State → List ℕ → Outcome
-outcome place st f = cond (st .over) skipped (elim (refusal st f) [ none ↦ meant st f .outcome | some n ↦ refused n place ])
+outcome place st f = outcomeWith (refusal st f) place st f
 
 -- an answer carries the field's number
 pub record Answer : Type 0 where
