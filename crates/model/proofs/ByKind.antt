@@ -11,7 +11,8 @@ use borrow.Author.Tests.{ltb-true, ltb-false, eqb-true, not-false}
 use Rattle.whole.specs.Tests.{or-left, or-right}
 use Rattle.model.specs.Limits.{firstFresh, lastTag}
 use Rattle.model.specs.Set.{Zonotope}
-use Rattle.model.specs.Field.{Kind, unknown, meaning, describe, kinds}
+use Rattle.model.specs.Finish.{those}
+use Rattle.model.specs.Field.{Kind, step, rangedStep, unknown, meaning, describe, kinds}
 use Rattle.model.specs.Run.{tag, kindOf, misplaced, cut}
 use Rattle.model.proofs.Held.{Held}
 use Rattle.model.proofs.Accepted.{Passed}
@@ -22,6 +23,11 @@ use Rattle.model.proofs.Kind.{laws}
 pub leaves : (k : Kind) (b : List ℕ) (next : ℕ) (s : Zonotope) → firstFresh ≤ next → (starts k ≡ false → Held next s)
     → Passed (meaning k b next s) → Leaves next (meaning k b next s)
 leaves k = laws k .leaves
+
+-- Only a step and a ranged step are worked out in the work slices; every other field leaves them as they are.
+pub only-steps-work : those (λ k. describe k .works) kinds ≡ step ∷ rangedStep ∷ []
+unfolding those
+only-steps-work = refl
 
 -- ---- a field that may stand where it does has a kind
 -- the kinds stand in the order of their tags
