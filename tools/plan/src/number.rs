@@ -53,7 +53,7 @@ impl Slot {
             (Some(scale), Form::Units) => (self.low / scale, format!("below {}", (self.high + 1) / scale)),
             _ => (self.low, self.high.to_string()),
         };
-        Err(format!("{word} is too large or too small here: from {low} to {high}"))
+        Err(format!("{word} is not from {low} to {high}"))
     }
 
     /// The file's number as a plan of this form writes it.

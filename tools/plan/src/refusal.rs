@@ -100,15 +100,14 @@ fn fault(rest: &[u8], refusal: &Refusal, before: &Before, since: &str, names: &N
     Some(Fault::of_field(what))
 }
 
-/// How many factors a sum or a hull would have.
+/// How many factors a sum or a hull would have; no other field brings any.
 fn factors(field: &Field, before: &Before) -> Option<String> {
     let has = &before.state.set.as_ref()?.identifiers;
     let (body, besides) = match field {
         Field::Independent(body) => return Some(too_many(has.len(), body.identifiers.len(), "")),
         Field::Tied(body) => (body, ""),
         Field::Hull(body) => (body, ", and the hull adds one"),
-        Field::Start(_) | Field::Step(_) | Field::Disturbance(_) => return None,
-        Field::Reduce(_) | Field::Check(_) | Field::Ranged(_) => return None,
+        _ => return None,
     };
     let new = body.identifiers.iter().filter(|id| !has.contains(id)).count();
     Some(too_many(has.len(), new, besides))

@@ -3,7 +3,6 @@
 use std::collections::BTreeSet;
 use std::fmt;
 use std::io;
-use std::path::PathBuf;
 
 use peer::rewrite::rewrite;
 use peer::text::motion;
@@ -152,7 +151,8 @@ impl Case<'_> {
 
     fn differs(&self, manner: &str, what: &str) -> Result<(), Failure> {
         let (kind, seed) = (self.kind.name, self.seed);
-        let path: PathBuf = std::env::temp_dir().join(format!("trials-{kind}-{seed}.run"));
+        // With the process in its name, so that comparisons at the same time leave each other's files alone.
+        let path = std::env::temp_dir().join(format!("trials-{kind}-{seed}-{}.run", std::process::id()));
         std::fs::write(&path, &self.bytes)?;
         let file = path.display();
         Err(Failure::Difference(format!("kind {kind}, seed {seed}, {manner}: {what}\nthe file: {file}")))
