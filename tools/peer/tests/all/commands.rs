@@ -1,6 +1,6 @@
 //! The commands as a program: files, standard input and output, messages and exit status.
 
-use crate::common::{answer, radius_lines, run_file, Answer};
+use crate::common::{answer, encoded, radius_lines, Answer};
 
 fn peer(words: &[&str], input: &[u8]) -> Answer {
     answer(env!("CARGO_BIN_EXE_peer"), words, input)
@@ -8,7 +8,7 @@ fn peer(words: &[&str], input: &[u8]) -> Answer {
 
 #[test]
 fn a_run_through_all_commands() {
-    let run = run_file("start 1\ncentre 4096\nradii 2");
+    let run = encoded("start 1\ncentre 4096\nradii 2");
     assert_eq!(peer(&["motion"], &run), (0, b"0 1 4094 4098\nfolded 0 0 0 0 0 0\nend 0\n".to_vec(), String::new()));
     let rest = format!("{}  mark 65536\nfolded 0 0 0 0 0 0\nend 0\n", radius_lines(0, 0, 0, 2));
     let sets = format!("0 1 4094 4098\n  identifiers\n  centre 4096\n{rest}");
@@ -18,7 +18,7 @@ fn a_run_through_all_commands() {
 
 #[test]
 fn a_run_file_by_its_name() {
-    let run = run_file("start 1\ncentre 4096\ndisturbance 1\ndisturbance 1\nradii 2");
+    let run = encoded("start 1\ncentre 4096\ndisturbance 1\ndisturbance 1\nradii 2");
     let path = std::env::temp_dir().join(format!("peer-by-its-name-{}.run", std::process::id()));
     std::fs::write(&path, &run).expect("a file");
     let name = path.to_str().expect("a name");
@@ -42,7 +42,7 @@ fn a_refusal_leaves_status_0() {
 
 #[test]
 fn rewrite() {
-    let run = run_file("start 1\ndisturbance 1\nreduce 1 1\nraw ff 05 00 01");
+    let run = encoded("start 1\ndisturbance 1\nreduce 1 1\nraw ff 05 00 01");
     let (start, rest) = (&run[..15], &run[23..]);
     assert_eq!(peer(&["rewrite"], &run), (0, [start, rest].concat(), String::new()));
     assert_eq!(peer(&["rewrite"], &[]), (0, Vec::new(), String::new()));

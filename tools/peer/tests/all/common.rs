@@ -11,7 +11,7 @@ use plan::encode::encode;
 use run_file::{whole, Field, Halfspace, Matrix, RangedStep, SetBody, Step, Term, HEADER, SQUARE_UNIT, UNIT};
 
 /// The run file of a plan whose numbers are the file's own: the line that says so is put before it.
-pub fn run_file(plan: &str) -> Vec<u8> {
+pub fn encoded(plan: &str) -> Vec<u8> {
     match encode(&format!("grains\n{plan}")) {
         Ok(encoded) => encoded.bytes,
         Err(mistake) => panic!("{mistake:?} in\n{plan}"),
@@ -47,7 +47,7 @@ pub fn radius_lines(carried: i128, rounded: i128, folded: i128, given: i128) -> 
 
 /// The fields of a plan, all of which a run accepts.
 pub fn accepted(plan: &str) -> Vec<Accepted> {
-    Run::new(&run_file(plan)).map(|item| item.expect("accepted")).collect()
+    Run::new(&encoded(plan)).map(|item| item.expect("accepted")).collect()
 }
 
 /// The bytes of an empty disturbance for n coordinates.

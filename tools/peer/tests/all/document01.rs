@@ -1,6 +1,6 @@
 //! Document 01's listing, its variants, its table as document 02's A.3 has it, and the cases marked 'run only'.
 
-use crate::common::{factors, last_line, radius_lines, run_file};
+use crate::common::{encoded, factors, last_line, radius_lines};
 use peer::bounds::bounding_box;
 use peer::finish::{finish, fold_term, FULL};
 use peer::run::Run;
@@ -77,7 +77,7 @@ fn folds() {
 
 #[test]
 fn half_a_unit_times_one_grain_leaves_radius_one_alone() {
-    let bytes = run_file("start 1\nidentifiers 1\nterm 1 : 1\nstep 1 from 1\nA 2048");
+    let bytes = encoded("start 1\nidentifiers 1\nterm 1 : 1\nstep 1 from 1\nA 2048");
     let rest = format!("{}  mark 65536\nfolded 0 0 0 0 0 0\nend 1\n", radius_lines(0, 1, 0, 0));
     let after = format!("1 2 -1 1\n  identifiers\n  centre 0\n{rest}");
     assert!(sets(&bytes).ends_with(&after), "{}", sets(&bytes));
@@ -85,7 +85,7 @@ fn half_a_unit_times_one_grain_leaves_radius_one_alone() {
 
 #[test]
 fn span_of_a_given_set() {
-    let start = |centre: i32| run_file(&format!("start 1\nidentifiers 1\ncentre {centre}\nterm 1 : 1"));
+    let start = |centre: i32| encoded(&format!("start 1\nidentifiers 1\ncentre {centre}\nterm 1 : 1"));
     assert_eq!(last_line(&start(1_048_575)), "end 0");
     assert_eq!(last_line(&start(1_048_576)), "0 refused 8 0");
     assert_eq!(last_line(&start(-1_048_575)), "end 0");
@@ -94,7 +94,7 @@ fn span_of_a_given_set() {
 
 #[test]
 fn exponents_that_add_to_64_fold_as_even() {
-    let bytes = run_file("start 1\nidentifiers 1\nterm 32 : 4096\nstep 1 from 1\nQ 1 : 4096");
+    let bytes = encoded("start 1\nidentifiers 1\nterm 32 : 4096\nstep 1 from 1\nQ 1 : 4096");
     let rest = format!("{}  mark 65536\nfolded 2048 0 0 0 0 0\nend 1\n", radius_lines(0, 0, 2048, 0));
     let after = format!("1 2 0 4096\n  identifiers\n  centre 2048\n{rest}");
     assert!(sets(&bytes).ends_with(&after), "{}", sets(&bytes));
@@ -102,7 +102,7 @@ fn exponents_that_add_to_64_fold_as_even() {
 
 #[test]
 fn exponent_limit() {
-    let start = |e: u32| last_line(&run_file(&format!("start 1\nidentifiers 1\nterm {e} : 1")));
+    let start = |e: u32| last_line(&encoded(&format!("start 1\nidentifiers 1\nterm {e} : 1")));
     assert_eq!(start(63), "end 0");
     assert_eq!(start(64), "0 refused 6 0");
 }
@@ -110,7 +110,7 @@ fn exponent_limit() {
 #[test]
 fn factors_of_a_sum() {
     let sum = |kind: &str, first: usize, count: usize| {
-        last_line(&run_file(&(factors("start", 1, 8) + &factors(kind, first, count))))
+        last_line(&encoded(&(factors("start", 1, 8) + &factors(kind, first, count))))
     };
     assert_eq!(sum("independent", 1, 4), "end 1");
     assert_eq!(sum("independent", 1, 5), "1 refused 9 143");
@@ -121,7 +121,7 @@ fn factors_of_a_sum() {
 
 #[test]
 fn product_of_two_factors_reaches_both_ends() {
-    let bytes = run_file("start 1\nidentifiers 1 2\nterm 1 1 : 5\n");
+    let bytes = encoded("start 1\nidentifiers 1 2\nterm 1 1 : 5\n");
     assert_eq!(motion(&bytes), "0 1 -5 5\nfolded 0 0 0 0 0 0\nend 0\n");
 }
 
@@ -148,7 +148,7 @@ fn finishing_drops_the_smallest_of_equals_the_later() {
 fn a_fold_leaves_the_widest_set_as_wide_as_it_was() {
     let reduced = |centre: &str, g: &str| {
         let plan = format!("start 1\nidentifiers 1\ncentre {centre}\nterm 2 : {g}\nreduce 0 0");
-        motion(&run_file(&plan))
+        motion(&encoded(&plan))
     };
     assert_eq!(reduced("-1048573", "-3"), "0 1 -1048576 -1048573\n1 6 -1048576 -1048572\nfolded 2 0 0 0 0 0\nend 1\n");
     assert_eq!(reduced("1048573", "3"), "0 1 1048573 1048576\n1 6 1048572 1048576\nfolded 2 0 0 0 0 0\nend 1\n");
@@ -158,7 +158,7 @@ fn a_fold_leaves_the_widest_set_as_wide_as_it_was() {
 fn the_inexact_count_takes_in_what_rounds_to_zero_and_what_is_folded() {
     // Centre, both terms, the generator and the three pairs: 0, 1, 1, 1 and 1, 1, 1 are inexact.
     let bytes =
-        run_file("start 1\nidentifiers 1 2\nterm 0 1 : 1\nterm 1 0 : 1\ngenerator 1\nstep 1 from 1\nA 1\nQ 1 : 1");
+        encoded("start 1\nidentifiers 1 2\nterm 0 1 : 1\nterm 1 0 : 1\ngenerator 1\nstep 1 from 1\nA 1\nQ 1 : 1");
     let accepted: Vec<_> = Run::new(&bytes).map(|item| item.expect("accepted")).collect();
     let set = &accepted[1].set;
     // S = 1·(2·1 + 1·2 + 1·1) = 5, which is less than a grain; half of 6 counted is 3.
@@ -168,7 +168,7 @@ fn the_inexact_count_takes_in_what_rounds_to_zero_and_what_is_folded() {
 #[test]
 fn a_pair_of_terms_takes_the_form_both_ways() {
     let step = "step 1 from 2\nQ 1 : 0 12288 / 4096 0";
-    let bytes = run_file(&format!("start 2\nidentifiers 1 2\nterm 0 1 : 0 4096\nterm 1 0 : 4096 0\n{step}"));
+    let bytes = encoded(&format!("start 2\nidentifiers 1 2\nterm 0 1 : 0 4096\nterm 1 0 : 4096 0\n{step}"));
     let rest = format!("{}  mark 65536\nfolded 0 0 0 0 0 0\nend 1\n", radius_lines(0, 0, 0, 0));
     let after = format!("1 2 -16384 16384\n  identifiers 1 2\n  centre 0\n  term 1 1 : 16384\n{rest}");
     assert!(sets(&bytes).ends_with(&after), "{}", sets(&bytes));
@@ -177,7 +177,7 @@ fn a_pair_of_terms_takes_the_form_both_ways() {
 #[test]
 fn mark_never_falls() {
     let one = "identifiers 7\nterm 1 : 5\n";
-    let bytes = run_file(&format!("start 1\n{one}independent 1\n{one}reduce 0 0\nindependent 1\n{one}"));
+    let bytes = encoded(&format!("start 1\n{one}independent 1\n{one}reduce 0 0\nindependent 1\n{one}"));
     let accepted: Vec<_> = Run::new(&bytes).map(|item| item.expect("accepted")).collect();
     assert_eq!(accepted.iter().map(|a| a.mark).collect::<Vec<_>>(), [65_536, 65_537, 65_537, 65_538]);
     assert_eq!(accepted[3].set.identifiers, [65_537]);

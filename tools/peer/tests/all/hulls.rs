@@ -1,13 +1,13 @@
 //! Hulls worked out by hand from document 02, A.1; what their refusals are about stands with the other refusals.
 
-use crate::common::{accepted, factors, last_line, radius_lines, run_file};
+use crate::common::{accepted, encoded, factors, last_line, radius_lines};
 use peer::set::{RadiusParts, Set};
 use peer::text::sets;
 use run_file::Term;
 
 /// What `sets` prints for the second of two fields.
 fn after(plan: &str) -> String {
-    let text = sets(&run_file(plan));
+    let text = sets(&encoded(plan));
     let begin = text.find("\n1 8 ").expect("a hull") + 1;
     text[begin..].trim_end_matches("folded 0 0 0 0 0 0\nend 1\n").to_string()
 }
@@ -101,9 +101,9 @@ fn the_later_of_equal_terms_fold() {
 fn the_union_and_the_new_factor_are_at_most_12() {
     let hull = |first: usize, from: usize, count: usize| {
         let start = factors("start", 1, first);
-        let place = run_file(&start).len();
+        let place = encoded(&start).len();
         let body = if count == 0 { "hull 1\ncentre 4".to_string() } else { factors("hull", from, count) };
-        last_line(&run_file(&(start + &body))).replace(&place.to_string(), "here")
+        last_line(&encoded(&(start + &body))).replace(&place.to_string(), "here")
     };
     assert_eq!(hull(8, 9, 3), "end 1");
     assert_eq!(hull(8, 9, 4), "1 refused 9 here");
@@ -120,7 +120,7 @@ fn the_union_and_the_new_factor_are_at_most_12() {
 fn rounding_alone_can_make_the_result_too_wide() {
     let with_itself = |centre: i128, g: i128| {
         let body = format!("1\nidentifiers 1\ncentre {centre}\nterm 1 : {g}\n");
-        last_line(&run_file(&format!("start {body}hull {body}")))
+        last_line(&encoded(&format!("start {body}hull {body}")))
     };
     assert_eq!(with_itself(0, 1_048_576), "end 1");
     for sign in [1, -1] {

@@ -1,6 +1,6 @@
 //! Where a radius comes from (document 02, A.4): its four parts, operation by operation, and the totals of folding.
 
-use crate::common::{accepted, run_file, totals_line};
+use crate::common::{accepted, encoded, totals_line};
 use peer::finish::finish;
 use peer::run::{Outcome, FIRST_MARK};
 use peer::set::{RadiusParts, Set};
@@ -142,7 +142,7 @@ const FOLDS_BOXES: &str = "0 1 -10 5 -4 13\n1 6 -10 5 -4 13\n2 2 -4 13 -10 5\n3 
 
 #[test]
 fn the_totals_are_over_all_fields_whatever_a_step_carries() {
-    assert_eq!(motion(&run_file(FOLDS)), format!("{FOLDS_BOXES}folded 10 7 0 0 0 0\nend 3\n"));
+    assert_eq!(motion(&encoded(FOLDS)), format!("{FOLDS_BOXES}folded 10 7 0 0 0 0\nend 3\n"));
     let run = accepted(FOLDS);
     assert_eq!(parts(&run[3].set), [[4, 0, 5, 0], [5, 0, 3, 0]]);
     assert_eq!(run.iter().map(|field| field.folded.clone()).collect::<Vec<_>>(), [[0, 0], [5, 4], [0, 0], [5, 3]]);
@@ -151,24 +151,24 @@ fn the_totals_are_over_all_fields_whatever_a_step_carries() {
 /// The last sum would fold one of 25 generators and is too wide.
 #[test]
 fn no_totals_after_a_refusal() {
-    let refused = |field: &str| motion(&run_file(&format!("{FOLDS}{field}")));
-    let place = run_file(FOLDS).len();
+    let refused = |field: &str| motion(&encoded(&format!("{FOLDS}{field}")));
+    let place = encoded(FOLDS).len();
     assert_eq!(refused("reduce 41 0"), format!("{FOLDS_BOXES}4 refused 4 {place}\n"));
     let full = format!("tied 2\n{}", "generator 1 0\n".repeat(24));
-    let place = place + run_file(&full).len();
+    let place = place + encoded(&full).len();
     let last = format!("4 5 -29 37 -10 6\n5 refused 10 {place}\n");
     assert_eq!(refused(&format!("{full}tied 2\ngenerator 1 0\nradii 1048575 0")), format!("{FOLDS_BOXES}{last}"));
     assert_eq!(motion(&[]), "0 refused 1 0\n");
-    assert_eq!(motion(&run_file("start 1\nradii -1")), "0 refused 6 0\n");
+    assert_eq!(motion(&encoded("start 1\nradii -1")), "0 refused 6 0\n");
 }
 
 #[test]
 fn a_run_that_folds_nothing_has_zeros() {
-    assert_eq!(motion(&run_file("start 1\nradii 5")), "0 1 -5 5\nfolded 0 0 0 0 0 0\nend 0\n");
+    assert_eq!(motion(&encoded("start 1\nradii 5")), "0 1 -5 5\nfolded 0 0 0 0 0 0\nend 0\n");
     let given = "start 6\nradii 1 2 3 4 5 6\ndisturbance 6\nradii 1 1 1 1 1 1";
     let carried_and_rounded = "start 1\nidentifiers 1\nterm 1 : 1\nstep 1 from 1\nA 2048\nhull 1\nradii 5";
     for plan in [given, carried_and_rounded] {
-        assert_eq!(totals_line(&run_file(plan)), "folded 0 0 0 0 0 0");
+        assert_eq!(totals_line(&encoded(plan)), "folded 0 0 0 0 0 0");
     }
 }
 
@@ -176,7 +176,7 @@ fn a_run_that_folds_nothing_has_zeros() {
 #[test]
 fn totals_of_up_to_six_coordinates() {
     let start = "start 6\ngenerator 1 2 3 4 5 6\nreduce 0 0\n";
-    let totals = |plan: &str| totals_line(&run_file(&format!("{start}{plan}")));
+    let totals = |plan: &str| totals_line(&encoded(&format!("{start}{plan}")));
     assert_eq!(totals(""), "folded 1 2 3 4 5 6");
     let one = "step 1 from 6\nA 0 0 0 0 0 4096\n";
     assert_eq!(totals(one), "folded 1 2 3 4 5 6");

@@ -1,6 +1,6 @@
 //! Ranged steps worked out by hand from document 02, A.2; what their refusals are about stands with the other refusals.
 
-use crate::common::{accepted, radius_lines, run_file};
+use crate::common::{accepted, encoded, radius_lines};
 use peer::run::{Accepted, Run};
 use peer::set::{RadiusParts, Set};
 use peer::step::image;
@@ -24,7 +24,7 @@ fn radius(start: &str, half_widths: &str) -> i128 {
 #[test]
 fn every_part_of_the_span_counts() {
     let start = "start 1\nidentifiers 1\ncentre -10\nterm 1 : 20\ngenerator -5\nradii 3\n";
-    let text = sets(&run_file(&format!("{start}ranged 1 from 1\nA 4096\nA+- 1024")));
+    let text = sets(&encoded(&format!("{start}ranged 1 from 1\nA 4096\nA+- 1024")));
     let parts = "identifiers 1\n  centre -10\n  term 1 : 20\n  generator -5\n";
     let rest = format!("{}  mark 65536\nfolded 0 0 0 0 0 0\nend 1\n", radius_lines(13, 0, 0, 0));
     assert!(text.ends_with(&format!("\n1 9 -48 28\n  {parts}{rest}")), "{text}");

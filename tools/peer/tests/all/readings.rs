@@ -1,14 +1,14 @@
 //! Agreed readings of open points that no other test shows; numbers as in READINGS.
 
-use crate::common::{accepted, last_line, run_file};
+use crate::common::{accepted, encoded, last_line};
 use peer::text::motion;
 
 /// 6: ranges are looked at over the whole body before rules and span.
 #[test]
 fn range_before_rules_and_span() {
     let plan = "start 1\nidentifiers 2 1\ncentre 2000000\nterm 0 0 : 0\nradii -1";
-    assert_eq!(last_line(&run_file(plan)), "0 refused 6 0");
-    assert_eq!(last_line(&run_file(&plan.replace("-1", "1"))), "0 refused 7 0");
+    assert_eq!(last_line(&encoded(plan)), "0 refused 6 0");
+    assert_eq!(last_line(&encoded(&plan.replace("-1", "1"))), "0 refused 7 0");
 }
 
 /// 10: a disturbance changes nothing but the radii.
@@ -69,6 +69,6 @@ fn a_factor_that_finishing_drops_takes_a_number() {
 /// 19: the field that is refused has the number it would have had.
 #[test]
 fn lines_before_a_refusal_stay() {
-    let bytes = run_file("start 1\nradii 3\nreduce 1 1\nreduce 41 1\nreduce 1 1");
+    let bytes = encoded("start 1\nradii 3\nreduce 1 1\nreduce 41 1\nreduce 1 1");
     assert_eq!(motion(&bytes), "0 1 -3 3\n1 6 -3 3\n2 refused 4 20\n");
 }

@@ -1,7 +1,7 @@
 //! Each refusal with its number and place, the order in which causes are looked at, and the agreed
 //! readings of both.
 
-use crate::common::{last_line, run_file};
+use crate::common::{encoded, last_line};
 
 const START: &str = "start 2\nidentifiers 1\nterm 1 : 5 5\n";
 /// Bytes of the field above.
@@ -9,12 +9,12 @@ const NEXT: usize = 3 + 4 + 4 + 8 + 9 + 8;
 
 /// The last line for a field after the start set, as a plan.
 fn after_start(plan: &str) -> String {
-    last_line(&run_file(&format!("{START}{plan}")))
+    last_line(&encoded(&format!("{START}{plan}")))
 }
 
 /// The same for bytes.
 fn bytes_after_start(bytes: &[u8]) -> String {
-    last_line(&[run_file(START), bytes.to_vec()].concat())
+    last_line(&[encoded(START), bytes.to_vec()].concat())
 }
 
 fn refused(number: u8) -> String {
@@ -23,7 +23,7 @@ fn refused(number: u8) -> String {
 
 /// The last line for a plan and one more field, which lacks so many bytes at its end.
 fn last_line_with(plan: &str, tag: u8, body: &[u8], cut: usize) -> String {
-    let mut bytes = run_file(plan);
+    let mut bytes = encoded(plan);
     bytes.push(tag);
     bytes.extend((body.len() as u16).to_le_bytes());
     bytes.extend(&body[..body.len() - cut]);
@@ -34,7 +34,7 @@ fn last_line_with(plan: &str, tag: u8, body: &[u8], cut: usize) -> String {
 fn input_ends() {
     assert_eq!(last_line(&[]), "0 refused 1 0");
     assert_eq!(last_line(&[1]), "0 refused 1 0");
-    let start = run_file(START);
+    let start = encoded(START);
     for cut in 1..start.len() {
         assert_eq!(last_line(&start[..cut]), "0 refused 1 0");
     }
@@ -187,7 +187,7 @@ fn rules() {
         for of in ["independent", "tied", "hull"] {
             assert_eq!(after_start(&format!("{of} 2\n{body}")), refused(7), "{of} {body}");
         }
-        assert_eq!(last_line(&run_file(&format!("start 2\n{body}"))), "0 refused 7 0", "{body}");
+        assert_eq!(last_line(&encoded(&format!("start 2\n{body}"))), "0 refused 7 0", "{body}");
     }
     assert_eq!(after_start("tied 2\n"), "end 1", "no factors, terms or generators");
     assert_eq!(after_start("tied 2\ngenerator 0 1\ngenerator 0 1"), "end 1");
@@ -200,7 +200,7 @@ fn spans() {
     assert_eq!(after_start(&format!("independent 2\n{wide} 1")), refused(10), "the sum is wider");
     assert_eq!(after_start(&format!("hull 2\n{wide} 2")), refused(8));
     assert_eq!(after_start(&format!("hull 2\n{wide} 1")), refused(10), "5 has inexact halves");
-    assert_eq!(last_line(&run_file(&format!("start 2\n{wide} 1"))), "end 0");
+    assert_eq!(last_line(&encoded(&format!("start 2\n{wide} 1"))), "end 0");
     let extreme = "independent 2\ncentre -2147483648 2147483647\ngenerator -2147483648 0\nradii 2147483647 0";
     assert_eq!(after_start(extreme), refused(8));
     assert_eq!(after_start("disturbance 2\nradii 1048572 0"), refused(10));
@@ -220,8 +220,8 @@ fn empty_disturbances() {
     assert_eq!(after_start("disturbance 2\nradii 1 0\ndisturbance 2"), format!("2 refused 14 {}", NEXT + 12));
     for n in 1..=6 {
         let start = format!("start {n}\n");
-        let place = run_file(&start).len();
-        let line = |radii: &[&str]| last_line(&run_file(&format!("{start}disturbance {n}\nradii {}", radii.join(" "))));
+        let place = encoded(&start).len();
+        let line = |radii: &[&str]| last_line(&encoded(&format!("{start}disturbance {n}\nradii {}", radii.join(" "))));
         assert_eq!(line(&vec!["0"; n]), format!("1 refused 14 {place}"));
         for i in 0..n {
             let with = |radius| [vec!["0"; i], vec![radius], vec!["0"; n - 1 - i]].concat();
@@ -237,7 +237,7 @@ fn empty_disturbances() {
 
 #[test]
 fn fields_after_the_last_that_may_follow() {
-    let full = run_file("start 1\nrepeat 4096 {\nreduce 40 24\n}");
+    let full = encoded("start 1\nrepeat 4096 {\nreduce 40 24\n}");
     assert_eq!(last_line(&full), "end 4096");
     for more in [&[0][..], &[1], &[6, 2, 0, 40, 24], &[255, 255, 255, 255]] {
         let bytes = [full.clone(), more.to_vec()].concat();
@@ -250,7 +250,7 @@ fn fields_after_the_last_that_may_follow() {
 #[test]
 fn order_of_refusals() {
     let eight = "start 1\nidentifiers 1 2 3 4 5 6 7 8\nterm 1 1 1 1 1 1 1 1 : 1048576\n";
-    let place = run_file(eight).len();
+    let place = encoded(eight).len();
     for (tag, room) in [(5, 4), (8, 3)] {
         let field = |n: u8, identifier: u8, exponent: u8, coefficient: i32, factors: u8, cut: usize, more: usize| {
             let mut body = vec![n, factors, 1, 0];
@@ -276,7 +276,7 @@ fn order_of_refusals() {
         assert_eq!(field(1, 20, 1, 1_048_576, room + 1, 0, 0), refused(9));
         assert_eq!(field(1, 20, 1, 1_048_576, room, 0, 0), refused(10));
         assert_eq!(field(1, 20, 1, 0, room, 0, 0), refused(7), "a zero term");
-        assert_eq!(last_line(&[run_file(eight), vec![10]].concat()), refused(2));
+        assert_eq!(last_line(&[encoded(eight), vec![10]].concat()), refused(2));
     }
 }
 
@@ -284,7 +284,7 @@ fn order_of_refusals() {
 #[test]
 fn order_of_a_disturbances_refusals() {
     let start = "start 2\ncentre 1048576 0\n";
-    let place = run_file(start).len();
+    let place = encoded(start).len();
     let refused = |number: u8| format!("1 refused {number} {place}");
     let field = |tag: u8, n: u8, radii: &[i32], cut: usize, more: usize| {
         let mut body = vec![n];
@@ -295,7 +295,7 @@ fn order_of_a_disturbances_refusals() {
     assert_eq!(field(10, 7, &[-1, 0], 1, 1), refused(2));
     assert_eq!(field(3, 7, &[-1, 0], 1, 1), refused(1));
     assert_eq!(field(3, 2, &[0, 0], 1, 0), refused(1));
-    assert_eq!(last_line(&[run_file(start), vec![3, 0, 0]].concat()), refused(3));
+    assert_eq!(last_line(&[encoded(start), vec![3, 0, 0]].concat()), refused(3));
     assert_eq!(field(3, 7, &[-1, 0], 0, 1), refused(4));
     assert_eq!(field(3, 0, &[], 0, 0), refused(4));
     assert_eq!(field(3, 7, &[0; 7], 0, 0), refused(4));
@@ -311,9 +311,9 @@ fn order_of_a_disturbances_refusals() {
     assert_eq!(field(3, 2, &[0, 0], 0, 0), refused(14), "in a set as wide as can be");
     assert_eq!(field(3, 2, &[1, 0], 0, 0), refused(10));
     assert_eq!(field(3, 2, &[0, 1], 0, 0), "end 1");
-    assert_eq!(last_line(&run_file("disturbance 1")), "0 refused 2 0", "as the first field");
-    let full = run_file("start 1\nrepeat 4096 {\nreduce 40 24\n}");
-    let line = last_line(&[full.clone(), run_file("disturbance 1")].concat());
+    assert_eq!(last_line(&encoded("disturbance 1")), "0 refused 2 0", "as the first field");
+    let full = encoded("start 1\nrepeat 4096 {\nreduce 40 24\n}");
+    let line = last_line(&[full.clone(), encoded("disturbance 1")].concat());
     assert_eq!(line, format!("4097 refused 12 {}", full.len()));
 }
 
@@ -321,7 +321,7 @@ fn order_of_a_disturbances_refusals() {
 #[test]
 fn order_of_a_ranged_steps_refusals() {
     let start = "start 1\ncentre 1048576\n";
-    let place = run_file(start).len();
+    let place = encoded(start).len();
     let field = |tag: u8, m: u8, n: u8, half_width: i32, cut: usize, more: usize| {
         let entries = usize::from(m) * usize::from(n) * (1 + usize::from(n));
         let mut body = vec![m, n];
@@ -333,7 +333,7 @@ fn order_of_a_ranged_steps_refusals() {
     let refused = |number: u8| format!("1 refused {number} {place}");
     assert_eq!(field(10, 7, 7, -1, 1, 1), refused(2));
     assert_eq!(field(9, 7, 7, -1, 1, 1), refused(1));
-    assert_eq!(last_line(&[run_file(start), vec![9, 1, 0, 7]].concat()), refused(3));
+    assert_eq!(last_line(&[encoded(start), vec![9, 1, 0, 7]].concat()), refused(3));
     assert_eq!(field(9, 7, 2, -1, 0, 1), refused(4));
     assert_eq!(field(9, 2, 7, -1, 0, 1), refused(4));
     assert_eq!(field(9, 1, 2, -1, 0, 1), refused(3));

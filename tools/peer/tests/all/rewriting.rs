@@ -1,6 +1,6 @@
 //! Stored files rewritten: what goes and what stays.
 
-use crate::common::{empty, run_file, whole_fields};
+use crate::common::{empty, encoded, whole_fields};
 use peer::rewrite::rewrite;
 use run_file::{HEADER, MAX_DIMENSION};
 use trials::generate::kinds;
@@ -8,11 +8,11 @@ use trials::generate::kinds;
 /// A file of fields that stay, for runs of one coordinate, and one of a tag that no run knows.
 fn staying() -> [Vec<u8>; 5] {
     [
-        run_file("start 1\ncentre 7"),
-        run_file("disturbance 1\nradii 1"),
-        run_file("reduce 0 0"),
+        encoded("start 1\ncentre 7"),
+        encoded("disturbance 1\nradii 1"),
+        encoded("reduce 0 0"),
         vec![200, 5, 0, 3, 5, 0, 1, 0],
-        run_file("check 1\nhalfspace 0 : 0"),
+        encoded("check 1\nhalfspace 0 : 0"),
     ]
 }
 
@@ -49,13 +49,13 @@ fn fields_after_a_refused_one_are_rewritten_too() {
         &[3, 5, 0, 1, 255, 255, 255, 255],
         &[2, 2, 0, 7, 7],
     ] {
-        for before in [Vec::new(), run_file("start 1"), run_file("start 2\nreduce 0 0")] {
+        for before in [Vec::new(), encoded("start 1"), encoded("start 2\nreduce 0 0")] {
             let stays = [before, refused.to_vec()].concat();
             let file = [stays.clone(), empty(1), empty(6), vec![9, 9]].concat();
             assert_eq!(rewrite(&file), [stays, vec![9, 9]].concat(), "{refused:?}");
         }
     }
-    let many = [run_file("start 1"), run_file("reduce 0 0").repeat(5_000)].concat();
+    let many = [encoded("start 1"), encoded("reduce 0 0").repeat(5_000)].concat();
     assert_eq!(rewrite(&[many.clone(), empty(2), many.clone()].concat()), [many.clone(), many].concat());
 }
 
@@ -66,7 +66,7 @@ fn what_is_not_whole_stays() {
     for n in 1..=MAX_DIMENSION {
         let field = empty(n);
         for kept in 0..field.len() {
-            for before in [Vec::new(), run_file("start 1"), vec![77, 1, 0, 3]] {
+            for before in [Vec::new(), encoded("start 1"), vec![77, 1, 0, 3]] {
                 let stays = [before.clone(), field[..kept].to_vec()].concat();
                 assert_eq!(rewrite(&[before, field.clone(), field[..kept].to_vec()].concat()), stays, "{kept} of {n}");
                 assert_eq!(rewrite(&stays), stays, "{kept} of {n}");

@@ -11,7 +11,7 @@ mod using;
 use plan::encode::encode;
 
 /// A plan's run file.
-fn run_file(plan: &str) -> Vec<u8> {
+fn encoded(plan: &str) -> Vec<u8> {
     match encode(plan) {
         Ok(encoded) => encoded.bytes,
         Err(mistake) => panic!("line {}: {}", mistake.line, mistake.message),

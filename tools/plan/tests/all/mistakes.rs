@@ -121,7 +121,7 @@ fn plans_that_are_too_much() {
     assert_eq!(mistake(&"repeat 2 {\n".repeat(100_000)), (17, "repeats stand at most 16 deep".to_string()));
     let nested = |inner: &str| format!("{}{inner}\n{}", "repeat 65536 {\n".repeat(8), "}\n".repeat(8));
     assert_eq!(mistake(&nested("raw 00")), (7, "the plan is too long".to_string()));
-    assert_eq!(crate::run_file(&nested("raw")), []);
+    assert_eq!(crate::encoded(&nested("raw")), []);
 }
 
 /// What encodes, but is seldom meant, is told.

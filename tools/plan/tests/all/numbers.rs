@@ -1,14 +1,14 @@
 //! Numbers in the user's unit, and under `grains` the file's own.
 
-use crate::run_file;
+use crate::encoded;
 use plan::number::{Form, BOUND, WORD};
 
 fn radius(number: &str) -> Vec<u8> {
-    run_file(&format!("disturbance 1\nradii {number}"))
+    encoded(&format!("disturbance 1\nradii {number}"))
 }
 
 fn grains(number: i32) -> Vec<u8> {
-    run_file(&format!("grains\ndisturbance 1\nradii {number}"))
+    encoded(&format!("grains\ndisturbance 1\nradii {number}"))
 }
 
 #[test]
@@ -36,8 +36,8 @@ fn a_number_is_in_the_users_unit_with_or_without_a_point() {
 
 #[test]
 fn a_bound_is_in_the_users_unit_too() {
-    let check = |bound: &str| run_file(&format!("check 1\nhalfspace 1 : {bound}"));
-    let whole = |bound: i64| run_file(&format!("grains\ncheck 1\nhalfspace 4096 : {bound}"));
+    let check = |bound: &str| encoded(&format!("check 1\nhalfspace 1 : {bound}"));
+    let whole = |bound: i64| encoded(&format!("grains\ncheck 1\nhalfspace 4096 : {bound}"));
     for (bound, number) in [("-1", -16_777_216), ("-16777217/16777216", -16_777_217), ("0.00000011920928955078125", 2)]
     {
         assert_eq!(check(bound), whole(number), "{bound}");
@@ -48,18 +48,15 @@ fn a_bound_is_in_the_users_unit_too() {
 #[test]
 fn twenty_is_twenty() {
     let plan = "start 1\nradii 20\ncheck 1\nhalfspace -1 : -18";
-    assert!(peer::text::motion(&run_file(plan)).contains("\n1 7 unknown\n"));
-    assert!(
-        peer::text::motion(&run_file(&format!("grains\n{plan}"))).contains("\n1 7 unknown\n"),
-        "b is in grains too"
-    );
+    assert!(peer::text::motion(&encoded(plan)).contains("\n1 7 unknown\n"));
+    assert!(peer::text::motion(&encoded(&format!("grains\n{plan}"))).contains("\n1 7 unknown\n"), "b is in grains too");
     let mixed = "grains\nstart 1\nradii 20\ncheck 1\nhalfspace -4096 : -301989888";
-    assert!(peer::text::motion(&run_file(mixed)).contains("\n1 7 safe\n"), "20 grains are 0.005 mm");
+    assert!(peer::text::motion(&encoded(mixed)).contains("\n1 7 safe\n"), "20 grains are 0.005 mm");
 }
 
 #[test]
 fn grains_stand_at_the_top() {
-    let plan = |top: &str| run_file(&format!("{top}start 1\ncentre 5"));
+    let plan = |top: &str| encoded(&format!("{top}start 1\ncentre 5"));
     assert_eq!(plan("grains\n"), plan("\n# a comment\n\n  grains  # whole numbers\n"));
     assert_ne!(plan("grains\n"), plan(""));
 }

@@ -1,6 +1,6 @@
 //! Plans: encoding and showing.
 
-use crate::run_file;
+use crate::encoded;
 use plan::encode::encode;
 use plan::number::Form::{Grains, Units};
 use plan::show::show;
@@ -13,7 +13,7 @@ fn any_bytes_come_back_from_their_plan_in_either_form() {
             let bytes = kind.file(seed);
             for form in [Units, Grains] {
                 let plan = show(&bytes, form);
-                assert!(run_file(&plan) == bytes, "{} {seed}\n{plan}", kind.name);
+                assert!(encoded(&plan) == bytes, "{} {seed}\n{plan}", kind.name);
             }
         }
     }
@@ -30,21 +30,21 @@ fn a_fields_block() {
              identifiers\n  centre {n3}\n  radii 0\n"
         )
     };
-    let in_grains = run_file(&format!("grains\n{fields}"));
+    let in_grains = encoded(&format!("grains\n{fields}"));
     assert_eq!(show(&in_grains, Grains), format!("grains\n{}", plan(|v| v.to_string(), "-7")));
     assert_eq!(show(&in_grains, Units), plan(|v| format!("{v}/4096"), "-7/16777216"));
-    assert_eq!(show(&run_file(fields), Units), plan(|v| v.to_string(), "-7"));
+    assert_eq!(show(&encoded(fields), Units), plan(|v| v.to_string(), "-7"));
 }
 
 /// Also with half-widths of 0 it is no plain step.
 #[test]
 fn a_ranged_steps_block() {
     let bytes =
-        run_file("ranged 1 from 2\nQ 1 : 1 2 / 3 4\nA 5 -6\nQ+- 1 : 0 0.5 / 0 0\nA+- 1 -1/4096\nranged 1 from 1");
+        encoded("ranged 1 from 2\nQ 1 : 1 2 / 3 4\nA 5 -6\nQ+- 1 : 0 0.5 / 0 0\nA+- 1 -1/4096\nranged 1 from 1");
     let plan = "ranged 1 from 2  # field 0, byte 0\n  c 0\n  A 5 -6\n  Q 1 : 1 2 / 3 4\n  A+- 1 -1/4096\n  \
                 Q+- 1 : 0 0.5 / 0 0\nranged 1 from 1  # field 1, byte 57\n  c 0\n  A 0\n  A+- 0\n";
     assert_eq!(show(&bytes, Units), plan);
-    assert_eq!(run_file(plan), bytes);
+    assert_eq!(encoded(plan), bytes);
 }
 
 /// c, A, Q, then the half-widths of A and of Q; forms by rows.
@@ -54,12 +54,12 @@ fn a_ranged_steps_bytes() {
     let half_widths = "A+- 9 10 / 11 12\nQ+- 1 : 13 14 / 15 16\nQ+- 2 : 17 18 / 19 20";
     let plan = format!("grains\nranged 2 from 2\nc -1 -2\nA 1 2 / 3 4\nQ 2 : 5 6 / 7 8\n{half_widths}");
     let entries = [[-1, -2].to_vec(), (1..=4).collect(), vec![0; 4], (5..=20).collect()].concat();
-    assert_eq!(run_file(&plan), [vec![9, 106, 0, 2, 2], words(&entries)].concat());
+    assert_eq!(encoded(&plan), [vec![9, 106, 0, 2, 2], words(&entries)].concat());
 }
 
 #[test]
 fn what_is_no_field_is_shown_raw() {
-    let bytes = [run_file("reduce 1 2"), vec![10, 0, 255]].concat();
+    let bytes = [encoded("reduce 1 2"), vec![10, 0, 255]].concat();
     let plan = "reduce 1 2  # field 0, byte 0\n# field 1, byte 5: not a well-formed field\nraw 0a 00 ff\n";
     assert_eq!(show(&bytes, Units), plan);
     assert_eq!(show(&bytes, Grains), format!("grains\n{plan}"));
@@ -68,8 +68,8 @@ fn what_is_no_field_is_shown_raw() {
 
 #[test]
 fn repeats() {
-    let repeated = run_file("repeat 2 {\nreduce 1 1\nrepeat 3 {\nreduce 2 2\n}\n}\nrepeat 0 {\nraw ff\n}");
-    assert_eq!(repeated, run_file(&"reduce 1 1\nreduce 2 2\nreduce 2 2\nreduce 2 2\n".repeat(2)));
+    let repeated = encoded("repeat 2 {\nreduce 1 1\nrepeat 3 {\nreduce 2 2\n}\n}\nrepeat 0 {\nraw ff\n}");
+    assert_eq!(repeated, encoded(&"reduce 1 1\nreduce 2 2\nreduce 2 2\nreduce 2 2\n".repeat(2)));
 }
 
 #[test]
@@ -97,7 +97,7 @@ fn texts_from_elsewhere() {
         plan.trim_end().to_string(),
         format!("\u{feff}# a comment\n{plan}"),
     ] {
-        assert_eq!(run_file(&other), run_file(plan), "{other:?}");
+        assert_eq!(encoded(&other), encoded(plan), "{other:?}");
     }
-    assert_eq!(run_file(&format!("\u{feff}grains\n{plan}")), run_file(&format!("grains\n{plan}")));
+    assert_eq!(encoded(&format!("\u{feff}grains\n{plan}")), encoded(&format!("grains\n{plan}")));
 }

@@ -1,7 +1,7 @@
 //! The commands as a program: words, messages and exit status. What the comparisons notice is tested with `peer`, whose
 //! program they need.
 
-use crate::common::{answer, run_file, Answer};
+use crate::common::{answer, encoded, Answer};
 use peer::text::motion;
 use trials::generate::{kinds, VALID};
 use trials::workload::WORKLOADS;
@@ -18,7 +18,7 @@ fn told(words: &[&str]) -> (i32, String, String) {
 
 #[test]
 fn follow() {
-    let run = run_file("start 1\ncentre 4096\nradii 2");
+    let run = encoded("start 1\ncentre 4096\nradii 2");
     let (status, report, message) = trials(&["follow", "3", "9"], &run);
     assert!(status == 0 && String::from_utf8_lossy(&report).contains("no escape among 3 motions"));
     assert_eq!(message, "");

@@ -1,6 +1,6 @@
 //! Sampled motions stay where the run says; and where it says something wrong, that is caught.
 
-use crate::common::{accepted, run_file};
+use crate::common::{accepted, encoded};
 use peer::finish::Finished;
 use peer::run::{Accepted, Outcome, Run, FIRST_MARK};
 use peer::set::{RadiusParts, Set};
@@ -39,7 +39,7 @@ fn set_radius(set: &mut Set, i: usize, radius: i128) {
 }
 
 fn plan() -> Vec<u8> {
-    run_file(
+    encoded(
         "start 2\nidentifiers 1\nterm 1 : 900 700\ngenerator 30 -20\nradii 5 6\n\
          step 2 from 2\nA 3000 500 / -500 2000\nQ 1 : 10 0 / 0 0\n\
          check 2\nhalfspace 4096 0 : 0",
@@ -97,7 +97,7 @@ fn a_wrong_verdict_is_caught() {
 /// An independent sum that keeps the body's identifiers cancels what does not cancel.
 #[test]
 fn an_independent_sum_done_as_a_tied_one_is_caught() {
-    let bytes = run_file("start 1\nidentifiers 1\nterm 1 : 9\nindependent 1\nidentifiers 1\nterm 1 : -9");
+    let bytes = encoded("start 1\nidentifiers 1\nterm 1 : 9\nindependent 1\nidentifiers 1\nterm 1 : -9");
     let escapes = (0..8).filter(|seed| {
         let mut motion = Motion::new(Manner::Any, *seed);
         let mut before = None;
@@ -130,8 +130,8 @@ fn a_hull_takes_a_motion_as_far_as_it_picks() {
 
 /// The first escape from what `wrong` makes of the set that the hull of the plan leaves.
 fn wrong_hull(plan: &str, manner: Manner, wrong: impl Fn(&mut Set)) -> Option<(usize, Escape)> {
-    assert_eq!(first_escape(&run_file(plan), manner, |_| ()), None);
-    first_escape(&run_file(plan), manner, |accepted| {
+    assert_eq!(first_escape(&encoded(plan), manner, |_| ()), None);
+    first_escape(&encoded(plan), manner, |accepted| {
         if let Field::Hull(_) = accepted.field {
             wrong(&mut accepted.set);
         }
@@ -223,8 +223,8 @@ fn coefficients_are_picked_anew_in_each_field() {
 
 /// The first escape from what a ranged step leaves if its radius has only so much, in units of 1.0.
 fn narrow_ranged(plan: &str, manner: Manner, radius: i128) -> Option<(usize, Escape)> {
-    assert_eq!(first_escape(&run_file(plan), manner, |_| ()), None);
-    first_escape(&run_file(plan), manner, |accepted| {
+    assert_eq!(first_escape(&encoded(plan), manner, |_| ()), None);
+    first_escape(&encoded(plan), manner, |accepted| {
         if let Field::Ranged(_) = accepted.field {
             set_radius(&mut accepted.set, 0, radius * 4096);
         }
@@ -256,8 +256,8 @@ fn a_gain_without_one_of_the_products_is_caught() {
 #[test]
 fn a_verdict_that_takes_the_entries_for_exact_is_caught() {
     let plan = "start 1\ncentre 4096\nranged 1 from 1\nA 4096\nA+- 2048\ncheck 1\nhalfspace 4096 : 8388608";
-    assert_eq!(first_escape(&run_file(plan), Manner::Low, |_| ()), None);
-    let wrong = first_escape(&run_file(plan), Manner::Low, |accepted| {
+    assert_eq!(first_escape(&encoded(plan), Manner::Low, |_| ()), None);
+    let wrong = first_escape(&encoded(plan), Manner::Low, |accepted| {
         if let Outcome::Verdict { safe } = &mut accepted.outcome {
             *safe = true;
         }
@@ -292,7 +292,7 @@ fn generated_ranges_show_a_missing_gain() {
 #[test]
 fn a_motion_whose_numbers_grow_too_long_is_said_to_stop() {
     let start = "start 1\nidentifiers 1\nterm 1 : 4095\n";
-    let steps = |count| run_file(&format!("{start}repeat {count} {{\nstep 1 from 1\nA 1001\nQ 1 : 1003\n}}"));
+    let steps = |count| encoded(&format!("{start}repeat {count} {{\nstep 1 from 1\nA 1001\nQ 1 : 1003\n}}"));
     let stop = "motion 0 (High): followed to field 9, over 8192 bits long there\n";
     let end = |whole, last| format!("no escape among 1 motions, {whole} of them followed to the last field, {last}\n");
     assert_eq!(follow(&steps(12), 1, 1).text, format!("{stop}{}", end(0, 12)));
@@ -301,7 +301,7 @@ fn a_motion_whose_numbers_grow_too_long_is_said_to_stop() {
 
 #[test]
 fn a_refused_field_ends_the_following() {
-    let text = follow(&run_file("start 1\ncentre 5\ndisturbance 2"), 4, 1).text;
+    let text = follow(&encoded("start 1\ncentre 5\ndisturbance 2"), 4, 1).text;
     let end = "no escape among 4 motions, 4 of them followed to the last field, 0\n";
     assert_eq!(text, format!("field 1 is refused with 5\n{end}"));
     assert_eq!(follow(&[], 4, 1).text, "field 0 is refused with 1\nno field to follow\n");
