@@ -1,7 +1,7 @@
 -- What is proved of the definitions.
 --     Left     the state that a field leaves, as a record
 --     OneTurn  one turn
---     Turns    turns one after the other
+--     Turns    all turns that can be made
 --     First    the first field of what was read
 --     Written  what functions that make turns answer
 --     Underway  the loop that makes turns

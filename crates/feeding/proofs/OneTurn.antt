@@ -1,7 +1,7 @@
 -- One turn: it leads to what calls can lead to, and its text and what is then still to be printed are what was to be printed.
 use mathlib.Core.Path.{_≡_, refl, sym, ap, ap₂, _∙_, subst}
 use mathlib.Core.List.{List, [], _∷_, _++_, append-nil}
-use mathlib.Core.Bool.{Bool, true, false, not, cond, _&&_, _||_, true≢false}
+use mathlib.Core.Bool.{Bool, true, false, not, cond, _&&_, true≢false}
 use Prim.Native.Nat.{ℕ, suc, _+_, _-_, _≤_, _<_}
 use native.Mathlib.Omega.{arith}
 use borrow.Author.Tests.{eqb-true, eqb-false, eq-eqb, ne-eqb, not-true, not-false}
@@ -9,26 +9,23 @@ use lib.Dec.{eqb}
 use lib.ListN.{length, drop, length-append, length-take}
 use lib.Seq.{take-nil}
 use Rattle.model.specs.Run as Model
-use Rattle.model.specs.Run.{tag, cut, after, answer, fieldLength, firstField}
-use Rattle.model.specs.Text.{closing, lineOf}
+use Rattle.model.specs.Run.{begin, tag, cut, after, answer, fieldLength, firstField}
+use Rattle.model.specs.Text.{closing, lineOf, printed}
 use Rattle.model.specs.Rest.{fieldsLeft, printedFrom}
 use Rattle.model.proofs.Tests.{and-true}
-use Rattle.model.proofs.Sound.{Sound, after-sound}
+use Rattle.model.proofs.Sound.{Sound, begin-sound, after-sound}
 use Rattle.model.proofs.LastLine.{over-prints-nothing}
-use Rattle.model.proofs.Cutting.{whole-header, some-bytes, first-kept, rest-kept, goes-on, empty-refused, first-line, last-line}
-use Rattle.states.specs.State.{viewed, left}
+use Rattle.model.proofs.Cutting.{whole-header, some-bytes, first-kept, rest-kept, goes-on, empty-refused, first-line, last-line, from-start}
+use Rattle.states.specs.State.{viewed, left, beginning}
+use Rattle.states.specs.Recorded.{viewed-record}
 use Rattle.states.specs.Taken.{taken}
 use Rattle.printing.specs.Brief.{sound-line}
 use Rattle.feeding.specs.declared.Progress.{Progress}
-use Rattle.feeding.specs.Fed.{Turns, closed, fieldTaken, between, oneTurn}
+use Rattle.streams.specs.Machine.{Turns}
+use Rattle.streams.specs.Laws.{Lawful}
+use Rattle.feeding.specs.Fed.{closed, fieldTaken, between, oneTurn, starting, feeder}
 use Rattle.feeding.specs.Reached.{Reached, remaining, turnsLeft}
 use Rattle.feeding.proofs.Left.{viewed-left, left-packed}
-
--- a field that isn't whole is taken only after the end
-by-end : (ended cut : Bool) → ended || not cut ≡ true → cut ≡ true → ended ≡ true
-by-end true b h e = refl
-by-end false true h e = h
-by-end false false h e = absurd (true≢false (sym e))
 
 -- a run that is over prints nothing more
 by-over : (place : ℕ) (v : Model.State) (rest : List ℕ) → cond (v .over) [] (printedFrom place v rest) ≡ printedFrom place v rest
@@ -168,33 +165,14 @@ module _ (p : Progress) (rest more : List ℕ) (e : cut rest ≡ false) where
       ∙ ap (fieldTaken p) (first-kept rest more e) ∙ sym whole-turn
 
   rest-more : drop (oneTurn p rest .used) (rest ++ more) ≡ drop (oneTurn p rest .used) rest ++ more
-  rest-more = subst (λ (t : Turns). drop (t .used) (rest ++ more) ≡ drop (t .used) rest ++ more) (sym whole-turn) (rest-kept rest more e)
-
--- A turn's text, and what is still to be printed after it, are what was to be printed, whatever follows; nothing does after the end.
-pub turned-goes-on : (p : Progress) → Reached p → p .done ≡ false → (ended : Bool) (rest more : List ℕ) → (ended ≡ true → more ≡ [])
-    → ended || not (cut rest) ≡ true
-    → (let t = oneTurn p rest in remaining p (rest ++ more) ≡ t .text ++ remaining (t .progress) (drop (t .used) rest ++ more))
-turned-goes-on p r on ended rest more last h = go (cut rest) refl
-  where
-    go : (b : Bool) → cut rest ≡ b
-        → (let t = oneTurn p rest in remaining p (rest ++ more) ≡ t .text ++ remaining (t .progress) (drop (t .used) rest ++ more))
-    go false e =
-        turned-prints p r on (rest ++ more)
-        ∙ ap (λ (t : Turns). t .text ++ remaining (t .progress) (drop (t .used) (rest ++ more))) (turned-more p rest more e)
-        ∙ ap (λ l. oneTurn p rest .text ++ remaining (oneTurn p rest .progress) l) (rest-more p rest more e)
-    go true e =
-        let t = oneTurn p rest in
-        subst (λ m. remaining p (rest ++ m) ≡ t .text ++ remaining (t .progress) (drop (t .used) rest ++ m))
-        (sym (last (by-end ended (cut rest) h e)))
-        (ap (remaining p) (append-nil rest) ∙ turned-prints p r on rest
-        ∙ ap (λ l. oneTurn p rest .text ++ remaining (oneTurn p rest .progress) l) (sym (append-nil (drop (oneTurn p rest .used) rest))))
+  rest-more = subst (λ (t : Turns Progress). drop (t .used) (rest ++ more) ≡ drop (t .used) rest ++ more) (sym whole-turn) (rest-kept rest more e)
 
 -- ---- every turn but the last uses a byte or more
 pub turned-uses : (p : Progress) (rest : List ℕ) → 0 < length rest → 0 < oneTurn p rest .used
-turned-uses p rest h = subst (λ (t : Turns). 0 < t .used) (sym (turned-field p rest h)) (some-bytes rest h)
+turned-uses p rest h = subst (λ (t : Turns Progress). 0 < t .used) (sym (turned-field p rest h)) (some-bytes rest h)
 
 -- ---- what a turn uses
-by-turn : (P : Turns → Type 0) (p : Progress) (rest : List ℕ) → P (closed p) → P (fieldTaken p (firstField rest)) → P (oneTurn p rest)
+by-turn : (P : Turns Progress → Type 0) (p : Progress) (rest : List ℕ) → P (closed p) → P (fieldTaken p (firstField rest)) → P (oneTurn p rest)
 unfolding oneTurn
 by-turn P p rest c t = go (between p rest)
   where
@@ -210,3 +188,26 @@ turned-within p rest =
 -- the next field stands after it
 pub turned-place : (p : Progress) (rest : List ℕ) → oneTurn p rest .progress .place ≡ p .place + oneTurn p rest .used
 turned-place p rest = by-turn (λ t. t .progress .place ≡ p .place + t .used) p rest (omega arith) refl
+
+-- ---- so a run is a lawful machine
+begin-viewed : viewed beginning ≡ begin
+begin-viewed = viewed-record begin-sound
+
+starting-reached : Reached starting
+starting-reached = record { sound = subst Sound (sym begin-viewed) begin-sound; packed = λ h. absurd (omega arith); going = λ e. refl }
+
+-- all of the input is to be printed
+pub starting-prints : (input : List ℕ) → remaining starting input ≡ printed input
+starting-prints input = ap (λ u. printedFrom 0 u input) begin-viewed ∙ from-start input
+
+pub lawful : Lawful feeder Reached remaining
+lawful = record {
+  begins = starting-reached;
+  silent = λ p rest d. ap (λ b. cond b [] (printedFrom (p .place) (viewed (p .state)) rest)) d;
+  reaches = λ p r on rest. turned-reached p r rest;
+  prints = λ p r on rest. turned-prints p r on rest;
+  whole = λ p rest more e. (turned-more p rest more e, rest-more p rest more e);
+  uses = turned-uses;
+  within = turned-within;
+  ends = λ p r on rest z. turned-last p r on rest z;
+}

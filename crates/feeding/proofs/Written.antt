@@ -32,7 +32,8 @@ use Rattle.printing.specs.Line.{answerLine}
 use Rattle.printing.specs.Brief.{sound-sides}
 use Rattle.feeding.specs.declared.Progress.{Progress}
 use Rattle.feeding.specs.declared.Fed.{Fed}
-use Rattle.feeding.specs.Fed.{Turns, closed, fieldTaken, between, oneTurn}
+use Rattle.streams.specs.Machine.{Turns}
+use Rattle.feeding.specs.Fed.{closed, fieldTaken, between, oneTurn}
 use Rattle.feeding.specs.Reached.{Reached, Placed, longestField}
 use Rattle.feeding.specs.Done.{Done}
 
@@ -93,11 +94,11 @@ field-done p f {before} {after} {at} {k} {answer = answer} n a s e x = record {
 }
 
 -- ---- one turn
-pub turn-done : (p : Progress) (rest : List ℕ) {t : Turns} {before after : List ℕ} {at : ℕ} {r : Fed} → oneTurn p rest ≡ t
+pub turn-done : (p : Progress) (rest : List ℕ) {t : Turns Progress} {before after : List ℕ} {at : ℕ} {r : Fed} → oneTurn p rest ≡ t
     → Done longestLine t before after at r → Done longestLine (oneTurn p rest) before after at r
-turn-done p rest {before = before} {after} {at} {r} e d = subst (λ (t : Turns). Done longestLine t before after at r) (sym e) d
+turn-done p rest {before = before} {after} {at} {r} e d = subst (λ (t : Turns Progress). Done longestLine t before after at r) (sym e) d
 
-pub turn-placed : {t : Turns} {before after : List ℕ} {at : ℕ} {r : Fed} → Done longestLine t before after at r → Placed (t .progress)
+pub turn-placed : {t : Turns Progress} {before after : List ℕ} {at : ℕ} {r : Fed} → Done longestLine t before after at r → Placed (t .progress)
     → Placed (r .progress)
 turn-placed d h = subst Placed (sym (d .progress)) h
 

@@ -1,5 +1,5 @@
 -- A run from input that comes in pieces.
---     Fed      one turn, and as many as what was read so far allows
+--     Fed      one turn
 --     Reached  what calls lead to, and what is still to be printed there
 --     Done     what a function that makes turns answers and leaves
 --     Pieces   what is claimed, however the input is cut

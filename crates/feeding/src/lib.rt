@@ -8,7 +8,8 @@ ghost use lib.ListN.{length};
 ghost use Rattle.model.specs.Run.{cut, firstField};
 ghost use Rattle.text.specs.Lines.{longestLine};
 ghost use Rattle.stepping.specs.Work.{workNumbers, workExponents};
-ghost use Rattle.feeding.specs.Fed.{starting, closed, fieldTaken, oneTurn, canTurn, fed};
+ghost use Rattle.streams.specs.Machine.{ready, fed};
+ghost use Rattle.feeding.specs.Fed.{starting, closed, fieldTaken, oneTurn, feeder};
 ghost use Rattle.feeding.specs.Reached.{Reached, Placed, longestField};
 ghost use Rattle.feeding.specs.Done.{Done};
 use states::State;
@@ -50,7 +51,7 @@ pub fn feed(
     exponents: &mut [u8],
 ) -> Fed
     requires { ⌜ Reached p × Placed p × (workNumbers ≤ length (now numbers)) × (workExponents ≤ length (now exponents)) ⌝ }
-    ensures { λ r. ⌜ Done (length (now (out .entry))) (fed ended (length (now (out .entry))) p (now (rest .entry)))
+    ensures { λ r. ⌜ Done (length (now (out .entry))) (fed feeder ended (length (now (out .entry))) p (now (rest .entry)))
         (now (out .entry)) (now (out .exit)) 0 r × Placed (r .progress) ⌝ }
 {
     let mut progress = p;
@@ -151,7 +152,7 @@ pub fn is_whole(rest: &[u8]) -> bool
 
 // Whether another turn can be made.
 fn can_turn(done: bool, ended: bool, rest: &[u8], room: usize) -> bool
-    ensures { λ r. ⌜ r ≡ canTurn done ended room (now (rest .entry)) ⌝ }
+    ensures { λ r. ⌜ r ≡ ready longestLine done ended room (now (rest .entry)) ⌝ }
 {
     if done {
         return false;

@@ -2,7 +2,7 @@
 use mathlib.Core.Path.{_≡_, refl, sym, ap, _∙_, subst}
 use mathlib.Core.Bool.{Bool, true, false, true≢false, cond, _||_}
 use mathlib.Core.List.{List, [], _∷_, _++_}
-use mathlib.Core.Option.{Option, none, some}
+use mathlib.Core.Option.{some}
 use Prim.Native.Nat.{ℕ, zero, suc, _+_, _-_, _≤_}
 use native.Mathlib.Omega.{arith}
 use borrow.Author.Tests.{ltb-true}
@@ -12,7 +12,7 @@ use lib.Seq.{take-all}
 use Rattle.model.specs.Limits.{lastField}
 use Rattle.model.specs.Run.{State, body, meant, _if_, firstOf, ofBody, causes, refusal, misplaced, cut, fieldLength, firstField}
 use Rattle.model.specs.Text.{foldedLine, endLine, closing, linesFrom}
-use Rattle.model.specs.Rest.{fieldsLeft, printedFrom}
+use Rattle.model.specs.Rest.{printedFrom}
 use Rattle.model.proofs.Cutting.{fieldsAfter, first-left, last-line}
 use Rattle.model.proofs.LastLine.{refusal-is-last}
 use Rattle.motion.specs.Streamed.{Closes, ended, refused}

@@ -14,20 +14,24 @@ use Rattle.model.specs.Text.{printed}
 use Rattle.model.specs.Rest.{printedFrom}
 use Rattle.text.specs.Lines.{longestLine}
 use Rattle.states.specs.State.{viewed}
+use Rattle.streams.specs.Machine.{Turns, fed}
+use Rattle.streams.proofs.Ready.{ready-by}
+use Rattle.streams.proofs.Turns.{fed-reached, fed-within, fed-prints}
 use Rattle.console.specs.declared.Input.{Input}
 use Rattle.console.specs.declared.Filled.{Filled}
 use Rattle.console.specs.declared.Output.{Output}
 use Rattle.console.specs.Trace.{noInput, noOutput, wrote, FilledFrom}
 use Rattle.console.specs.History.{Read, bytesOf, Write, handedOver}
-use Rattle.console.proofs.Traces.{bytes-more, handed-more, told-nothing, told-read, told-wrote}
+use Rattle.console.proofs.Traces.{told-nothing, told-read, told-wrote}
+use Rattle.console.proofs.Streams.{follows-begins, follows-read, follows-wrote, streams}
 use Rattle.feeding.specs.declared.Progress.{Progress}
 use Rattle.feeding.specs.declared.Fed.{Fed}
 use Rattle.feeding.specs.Fed as Feeding
-use Rattle.feeding.specs.Fed.{Turns, fed}
+use Rattle.feeding.specs.Fed.{feeder}
 use Rattle.feeding.specs.Reached.{Reached, Placed, remaining, turnsLeft}
 use Rattle.feeding.specs.Done.{Done}
-use Rattle.feeding.proofs.Turns.{fed-reached, fed-within, fed-place, fed-no-more, fed-falls, fed-prints, ready-by}
-use Rattle.feeding.proofs.Pieces.{starting-reached, starting-prints}
+use Rattle.feeding.proofs.OneTurn.{lawful, starting-prints}
+use Rattle.feeding.proofs.Turns.{fed-place, fed-no-more, fed-falls}
 use Rattle.motion.specs.declared.Flow.{Flow}
 use Rattle.motion.specs.Streamed.{Unclosed, Streamed}
 use Rattle.motion.proofs.Closed.{cut-closes}
@@ -44,16 +48,15 @@ flow-begun e g h = ap₃ e g h
     ap₃ e g h = rw (e, g, h)
 
 pub along-begins : (buffer : List ℕ) → Along startingFlow buffer
-unfolding bytesOf handedOver
 along-begins buffer = record {
-  reached = starting-reached;
+  reached = lawful .begins;
   placed = λ e. omega arith;
   within = omega arith;
   reads = [];
   writes = [];
   told = told-nothing;
   stopped = λ e. absurd (true≢false (sym e));
-  prints = λ more last. sym (starting-prints more);
+  prints = follows-begins starting-prints;
 }
 
 -- ---- reading on
@@ -109,15 +112,10 @@ module _ (f : Flow) (buffer B P : List ℕ) (a : Along f buffer) (on : f .ended 
   none-came e =
       rest-more ∙ ap (λ n. heldBytes f buffer ++ take n B) (filled .none e) ∙ append-nil (heldBytes f buffer)
 
-  read-prints : (more : List ℕ) → (next .ended ≡ true → more ≡ [])
-      → printed (bytesOf (a .reads ++ (this ∷ [])) ++ more)
-      ≡ handedOver (a .writes) ++ remaining (f .progress) (heldBytes next after ++ more)
-  read-prints more last =
-      ap (λ l. printed (l ++ more)) (bytes-more (a .reads) this)
-      ∙ ap printed (append-assoc (bytesOf (a .reads)) bytes more)
-      ∙ a .prints (bytes ++ more) (λ e. absurd (true≢false (sym e ∙ on)))
-      ∙ ap (λ l. handedOver (a .writes) ++ remaining (f .progress) l)
-      (sym (append-assoc (heldBytes f buffer) bytes more) ∙ ap (_++ more) (sym rest-more))
+  left-more : (more : List ℕ)
+      → remaining (f .progress) (heldBytes f buffer ++ (bytes ++ more)) ≡ remaining (f .progress) (heldBytes next after ++ more)
+  left-more more =
+      ap (remaining (f .progress)) (sym (append-assoc (heldBytes f buffer) bytes more) ∙ ap (_++ more) (sym rest-more))
 
   pub one-read : Refilled f next after
   one-read = record {
@@ -139,7 +137,7 @@ module _ (f : Flow) (buffer B P : List ℕ) (a : Along f buffer) (on : f .ended 
         going = going;
         more = ap (λ b. eqb (r .count) 0 && not b) e ∙ and-false (eqb (r .count) 0);
       };
-      prints = read-prints;
+      prints = follows-read (a .prints) _ on this left-more;
     };
     progress = refl;
     failed = refl;
@@ -170,13 +168,13 @@ turn-stopped f g buffer r good bad = (
 
 -- ---- taking fields and writing their lines
 module _ (f g : Flow) (buffer : List ℕ) (a : Along g buffer) (room : ℕ) {out out' : List ℕ} (r : Fed)
-    (d : Done room (fed (g .ended) room (g .progress) (heldBytes g buffer)) out out' 0 r) (placed : Placed (r .progress)) where
-  abbrev t : Turns
-  t = fed (g .ended) room (g .progress) (heldBytes g buffer)
+    (d : Done room (fed feeder (g .ended) room (g .progress) (heldBytes g buffer)) out out' 0 r) (placed : Placed (r .progress)) where
+  abbrev t : Turns Progress
+  t = fed feeder (g .ended) room (g .progress) (heldBytes g buffer)
 
   pub used-within : r .used ≤ g .held
   used-within =
-      omega (arith, d .used, fed-within (g .ended) room (g .progress) (heldBytes g buffer) (a .reached), length-take (g .held) buffer)
+      omega (arith, d .used, fed-within lawful (g .ended) room (g .progress) (heldBytes g buffer) (a .reached), length-take (g .held) buffer)
 
   -- what is handed over is their text
   pub text-written : take (r .written) out' ≡ t .text
@@ -203,26 +201,23 @@ module _ (f g : Flow) (buffer : List ℕ) (a : Along g buffer) (room : ℕ) {out
     abbrev now-written : Write
     now-written = record { bytes = t .text; whole = whole }
 
-    turn-prints : (more : List ℕ) → (g .ended ≡ true → more ≡ [])
-        → printed (bytesOf (a .reads) ++ more)
-        ≡ handedOver (a .writes ++ (now-written ∷ [])) ++ remaining (r .progress) (heldBytes then after ++ more)
-    turn-prints more last =
-        a .prints more last
-        ∙ ap (handedOver (a .writes) ++_) (fed-prints (g .ended) room (g .progress) (heldBytes g buffer) (a .reached) more last)
-        ∙ sym (append-assoc (handedOver (a .writes)) (t .text) _)
-        ∙ ap₂ _++_ (sym (handed-more (a .writes) now-written))
+    left-then : (more : List ℕ) → (g .ended ≡ true → more ≡ [])
+        → remaining (g .progress) (heldBytes g buffer ++ more) ≡ t .text ++ remaining (r .progress) (heldBytes then after ++ more)
+    left-then more last =
+        fed-prints lawful (g .ended) room (g .progress) (heldBytes g buffer) (a .reached) more last
+        ∙ ap (t .text ++_)
         (ap₂ (λ p l. remaining p (l ++ more)) (sym (d .progress)) (ap (λ n. drop n (heldBytes g buffer)) (sym (d .used)) ∙ sym moved))
 
     turn-along : Along then after
     turn-along = record {
-      reached = subst Reached (sym (d .progress)) (fed-reached (g .ended) room (g .progress) (heldBytes g buffer) (a .reached));
+      reached = subst Reached (sym (d .progress)) (fed-reached lawful (g .ended) room (g .progress) (heldBytes g buffer) (a .reached));
       placed = placed;
       within = omega (arith, a .within);
       reads = a .reads;
       writes = a .writes ++ (now-written ∷ []);
       told = told-wrote (a .told) came went (t .text) whole (sent ∙ ap (λ y. wrote (g .output) y whole) text-written);
       stopped = λ e. absurd (true≢false (sym e));
-      prints = turn-prints;
+      prints = follows-wrote (a .prints) _ now-written left-then;
     }
 
     -- fewer turns can follow
@@ -242,7 +237,7 @@ module _ (f g : Flow) (buffer : List ℕ) (a : Along g buffer) (room : ℕ) {out
       fewer-turns : g .ended || not (cut (heldBytes g buffer)) ≡ true → turnsLeft (r .progress) < turnsLeft p
       fewer-turns e =
           subst (λ (q : Progress). turnsLeft q < turnsLeft p) (sym (d .progress))
-          (fed-falls (g .ended) room p (heldBytes g buffer) (a .reached) (ready-by (g .ended) room p (heldBytes g buffer) going e large))
+          (fed-falls (g .ended) room p (heldBytes g buffer) (a .reached) (ready-by longestLine (p .done) (g .ended) room (heldBytes g buffer) going large ∙ e))
 
       next-place : r .progress .place ≡ p .place + r .used
       next-place =
@@ -294,11 +289,6 @@ module _ (over : Bool) (f : Flow) (e : over ≡ isOver f) (h : not over ≡ true
   not-unread = or-right (f .failed) (f .unread) (or-left (f .failed || f .unread) (f .progress .done) (sym e ∙ not-true over h))
 
 -- ---- the end
-nothing-left : (f : Flow) (l : List ℕ) (ws : List Write) → f .progress .done ≡ true
-    → handedOver ws ++ remaining (f .progress) l ≡ handedOver ws
-nothing-left f l ws d =
-    ap (λ b. handedOver ws ++ cond b [] (printedFrom (f .progress .place) (viewed (f .progress .state)) l)) d ∙ append-nil (handedOver ws)
-
 -- what would close the output where a read failed
 left-open : (f : Flow) (buffer : List ℕ) → Along f buffer → (reads : List Read) (writes : List Write)
     → printed (bytesOf reads ++ []) ≡ handedOver writes ++ remaining (f .progress) (heldBytes f buffer ++ []) → Stopped f buffer
@@ -317,11 +307,9 @@ pub streamed : (f : Flow) (buffer : List ℕ) → Along f buffer → isOver f �
 streamed f buffer a over = record {
   reads = a .reads;
   writes = a .writes;
-  told = a .told;
-  all = λ good went more last.
-      sym (a .prints more last ∙ nothing-left f (heldBytes f buffer ++ more) (a .writes) (third (f .failed) (f .unread) _ over went good));
-  unclosed = λ e. left-open f buffer a (a .reads) (a .writes) (a .prints [] (λ _. refl)) (a .stopped e);
-  begins = λ more last. (remaining (f .progress) (heldBytes f buffer ++ more), a .prints more last);
+  streams = streams (a .told) (a .prints) (λ whole more last.
+      lawful .silent (f .progress) (heldBytes f buffer ++ more) (third (f .failed) (f .unread) _ over (whole .1) (whole .0)));
+  unclosed = λ e. left-open f buffer a (a .reads) (a .writes) (a .prints .says [] (λ _. refl)) (a .stopped e);
 }
   where
     third : (x y z : Bool) → (x || y) || z ≡ true → x ≡ false → y ≡ false → z ≡ true

@@ -13,11 +13,12 @@ pub promise : {f : Flow} → Streamed f → Promise f
 promise s = record {
   reads = s .reads;
   writes = s .writes;
-  told = s .told;
+  told = s .streams .told;
   kept = λ good went more last.
-      subst (Promised (bytesOf (s .reads) ++ more)) (sym (s .all good went more last)) (Output.promise (bytesOf (s .reads) ++ more));
+      let input = bytesOf (s .reads) ++ more in
+      subst (Promised input) (sym (s .streams .all (good, went) more last)) (Output.promise input);
   unclosed = s .unclosed;
   so-far = λ more last through later e.
-      let b = s .begins more last in
+      let b = s .streams .begins more last in
       Output.begun (bytesOf (s .reads) ++ more) through (later ++ b .0) (b .1 ∙ ap (_++ b .0) e ∙ append-assoc through later (b .0));
 }

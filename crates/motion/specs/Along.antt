@@ -1,13 +1,14 @@
 -- What the program knows between turns.
 use mathlib.Core.Path.{_≡_}
-use mathlib.Core.List.{List, [], _++_}
+use mathlib.Core.List.{List, _++_}
 use mathlib.Core.Bool.{true, false, not, cond, _||_}
 use Prim.Native.Nat.{ℕ, suc, _+_, _-_, _≤_, _<_}
 use lib.ListN.{length, take}
 use Rattle.model.specs.Run.{cut}
 use Rattle.model.specs.Text.{printed}
 use Rattle.console.specs.Trace.{noInput, noOutput}
-use Rattle.console.specs.History.{Read, bytesOf, Write, handedOver, Told}
+use Rattle.console.specs.History.{Read, Write, Told}
+use Rattle.console.specs.Streams.{Follows}
 use Rattle.feeding.specs.Fed as Feeding
 use Rattle.feeding.specs.Reached.{Reached, Placed, remaining, turnsLeft}
 use Rattle.motion.specs.declared.Flow.{Flow}
@@ -44,8 +45,7 @@ pub record Along (f : Flow) (buffer : List ℕ) : Type 0 where
   pub told : Told (f .input) (f .output) (f .ended) (f .unread) (f .failed) reads writes
   pub stopped : f .unread ≡ true → Stopped f buffer
   -- what was written, and what is still to be printed
-  pub prints : (more : List ℕ) → (f .ended ≡ true → more ≡ [])
-      → printed (bytesOf reads ++ more) ≡ handedOver writes ++ remaining (f .progress) (heldBytes f buffer ++ more)
+  pub prints : Follows printed (λ more. remaining (f .progress) (heldBytes f buffer ++ more)) (f .ended) reads writes
 
 -- after reading on: the run stays as it is, and where it can't go on yet a byte more is there, unless the read failed
 pub record Refilled (f r : Flow) (after : List ℕ) : Type 0 where

@@ -1,10 +1,11 @@
 -- What the program read and wrote, by its calls of `console`.
 use mathlib.Core.Path.{_≡_}
-use mathlib.Core.List.{List, [], _++_}
+use mathlib.Core.List.{List, _++_}
 use mathlib.Core.Bool.{true, false}
 use Prim.Native.Nat.{ℕ}
 use Rattle.model.specs.Text.{refusalLine, foldedLine, endLine, printed}
-use Rattle.console.specs.History.{Read, bytesOf, Write, handedOver, Told}
+use Rattle.console.specs.History.{Read, bytesOf, Write, handedOver}
+use Rattle.console.specs.Streams.{Streams}
 use Rattle.motion.specs.declared.Flow.{Flow}
 
 -- the lines that close an output: the totals and the end of a run, or a refusal
@@ -22,13 +23,8 @@ pub record Unclosed (input output : List ℕ) : Type 0 where
 pub record Streamed (f : Flow) : Type 0 where
   pub reads : List Read
   pub writes : List Write
-  -- these reads and these writes were made, and what it says of them
-  pub told : Told (f .input) (f .output) (f .ended) (f .unread) (f .failed) reads writes
-  -- Where neither failed, what was written is what is printed for what was read, whatever may follow that; nothing does after the end.
-  pub all : f .unread ≡ false → f .failed ≡ false → (more : List ℕ) → (f .ended ≡ true → more ≡ [])
-      → handedOver writes ≡ printed (bytesOf reads ++ more)
+  -- Where no read and no write failed, what was written is what is printed for what was read; else how that begins.
+  pub streams : Streams printed (f .input) (f .output) (f .ended) (f .unread) (f .failed) ((f .unread ≡ false) × (f .failed ≡ false))
+      reads writes
   -- Where a read failed, it is that without an end or a refusal.
   pub unclosed : f .unread ≡ true → Unclosed (bytesOf reads) (handedOver writes)
-  -- However the program ended, it is how that begins.
-  pub begins : (more : List ℕ) → (f .ended ≡ true → more ≡ [])
-      → (later : List ℕ) × (printed (bytesOf reads ++ more) ≡ handedOver writes ++ later)

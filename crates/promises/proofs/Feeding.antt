@@ -7,25 +7,26 @@ use lib.ListN.{length}
 use Rattle.rational.specs.Sum.{All}
 use Rattle.model.specs.Text.{printed}
 use Rattle.text.specs.Lines.{longestLine}
-use Rattle.feeding.specs.Pieces.{Call, endCalls, calls, beforeCalls, piecesJoined}
+use Rattle.streams.specs.Pieces.{Call, endCalls, calls, beforeCalls, piecesJoined}
+use Rattle.feeding.specs.Fed.{feeder}
 use Rattle.feeding.proofs.Pieces as Pieces
 
 -- Once the last line is given, what was handed over, joined, is what is printed for the pieces joined.
 pub as-printed : (cs : List Call) (rooms : List ℕ)
-    → (let s = endCalls rooms (calls cs beforeCalls) in s .progress .done ≡ true → s .text ≡ printed (piecesJoined cs))
+    → (let s = endCalls feeder rooms (calls feeder cs (beforeCalls feeder)) in s .progress .done ≡ true → s .text ≡ printed (piecesJoined cs))
 as-printed = Pieces.as-printed
 
 -- Where a refusal gave it, that holds whatever would still come.
 pub whatever-follows : (cs : List Call) (more : List ℕ)
-    → (let s = calls cs beforeCalls in s .progress .done ≡ true → s .text ≡ printed (piecesJoined cs ++ more))
+    → (let s = calls feeder cs (beforeCalls feeder) in s .progress .done ≡ true → s .text ≡ printed (piecesJoined cs ++ more))
 whatever-follows = Pieces.whatever-follows
 
 -- Before, it is how the output begins, whatever follows.
 pub begins : (cs : List Call) (more : List ℕ)
-    → (later : List ℕ) × (printed (piecesJoined cs ++ more) ≡ calls cs beforeCalls .text ++ later)
+    → (later : List ℕ) × (printed (piecesJoined cs ++ more) ≡ calls feeder cs (beforeCalls feeder) .text ++ later)
 begins = Pieces.begins
 
 -- The last line comes: after the end, 4,098 calls with room for a longest line are enough.
 pub ends : (cs : List Call) (rooms : List ℕ) → All (longestLine ≤_) rooms → 4098 ≤ length rooms
-    → endCalls rooms (calls cs beforeCalls) .progress .done ≡ true
+    → endCalls feeder rooms (calls feeder cs (beforeCalls feeder)) .progress .done ≡ true
 ends = Pieces.ends

@@ -1,7 +1,7 @@
 -- A turn of the program keeps what it knows.
 use mathlib.Core.Path.{_≡_, refl, sym, ap, ap₂, _∙_, subst}
 use mathlib.Core.Bool.{Bool, true, false, not, cond, _&&_, _||_, true≢false, and-true, and-false}
-use mathlib.Core.List.{List, [], _∷_, _++_, append-assoc, append-nil}
+use mathlib.Core.List.{List, [], _∷_, _++_, append-nil}
 use Prim.Native.Nat.{ℕ, _+_, _-_, _<_}
 use native.Mathlib.Omega.{arith}
 use borrow.Author.Tests.{eqb-true, eqb-false, eq-eqb, ne-eqb}
@@ -15,8 +15,10 @@ use Rattle.console.specs.declared.Input.{Input}
 use Rattle.console.specs.declared.Filled.{Filled}
 use Rattle.console.specs.declared.Output.{Output}
 use Rattle.console.specs.Trace.{noInput, noOutput, wrote, FilledFrom}
-use Rattle.console.specs.History.{Read, bytesOf, Write, handedOver, Told}
-use Rattle.console.proofs.Traces.{bytes-more, handed-more, told-nothing, told-read, told-wrote}
+use Rattle.console.specs.History.{Read, Write, Told}
+use Rattle.console.specs.Streams.{Follows}
+use Rattle.console.proofs.Traces.{told-nothing, told-read, told-wrote}
+use Rattle.console.proofs.Streams.{follows-begins, follows-read, follows-wrote, streams}
 use Rattle.rewriting.specs.declared.Held.{Held}
 use Rattle.rewriting.specs.declared.Given.{Given}
 use Rattle.rewriting.specs.Given as Rewriting
@@ -41,14 +43,13 @@ flow-begun e g h = ap₃ e g h
     ap₃ e g h = rw (e, g, h)
 
 along-begins : Along startingFlow
-unfolding bytesOf handedOver
 along-begins = record {
   reached = starting-reached;
   reads = [];
   writes = [];
   made = refl;
   told = told-nothing;
-  rewrites = λ more last. sym (starting-remains more);
+  rewrites = follows-begins starting-remains;
 }
 
 -- ---- what comes of a read
@@ -120,13 +121,9 @@ module _ (f : Flow) (B : List ℕ) (a : Along f) (on : f .ended ≡ false) (good
       (told-read (a .told) good B r filled some)))
 
   -- what is left of what was read before and now
-  read-rewrites : (more : List ℕ)
-      → rewritten (bytesOf (a .reads ++ (this ∷ [])) ++ more) ≡ handedOver (a .writes) ++ remaining (f .held) (came ++ more)
-  read-rewrites more =
-      ap (λ l. rewritten (l ++ more)) (bytes-more (a .reads) this)
-      ∙ ap rewritten (append-assoc (bytesOf (a .reads)) came more)
-      ∙ a .rewrites (came ++ more) (λ e. absurd (true≢false (sym e ∙ on)))
-      ∙ ap (λ x. handedOver (a .writes) ++ cond x [] (remaining (f .held) (came ++ more))) on
+  read-rewrites : {now : Bool} → Follows rewritten (λ more. remaining (f .held) (came ++ more)) now (a .reads ++ (this ∷ [])) (a .writes)
+  read-rewrites =
+      follows-read (a .rewrites) _ on this (λ more. ap (λ x. cond x [] (remaining (f .held) (came ++ more))) on)
 
   -- and that failed: nothing came
   module _ (bad : r .failed ≡ true) where
@@ -149,8 +146,8 @@ module _ (f : Flow) (B : List ℕ) (a : Along f) (on : f .ended ≡ false) (good
         writes = a .writes;
         made = omega (arith, length-append (a .reads) (this ∷ []), a .made);
         told = now-told (ap (λ b. eqb (r .count) 0 && not b) bad ∙ and-false (eqb (r .count) 0)) bad went;
-        rewrites = λ more last.
-            read-rewrites more ∙ ap (λ n. handedOver (a .writes) ++ remaining (f .held) (take n B ++ more)) (filled .none bad);
+        rewrites = follows-read (a .rewrites) _ on this (λ more.
+            ap (λ x. cond x [] (remaining (f .held) (came ++ more))) on ∙ ap (λ n. remaining (f .held) (take n B ++ more)) (filled .none bad));
       };
       fewer = omega arith;
     }
@@ -179,16 +176,11 @@ module _ (f : Flow) (B : List ℕ) (a : Along f) (on : f .ended ≡ false) (good
     came-count : length came ≡ r .count
     came-count = length-take-le (r .count) B (filled .within)
 
-    turn-rewrites : (more : List ℕ) → (eqb (r .count) 0 ≡ true → more ≡ [])
-        → rewritten (bytesOf (a .reads ++ (this ∷ [])) ++ more) ≡ handedOver (a .writes ++ (now-written ∷ [])) ++ stillLeft next more
-    turn-rewrites more last =
+    left-then : (more : List ℕ) → (eqb (r .count) 0 ≡ true → more ≡ []) → remaining (f .held) (came ++ more) ≡ text ++ stillLeft next more
+    left-then more last =
         let same = came-count in
-        read-rewrites more
-        ∙ ap (handedOver (a .writes) ++_) (passed-remains (f .held) came (a .reached) more
-        (λ e. last (ap (λ n. eqb n 0) (sym same) ∙ e)))
-        ∙ sym (append-assoc (handedOver (a .writes)) text _)
-        ∙ ap₂ _++_ (sym (handed-more (a .writes) now-written))
-        (ap₂ (λ n h. cond (eqb n 0) [] (remaining h more)) same (sym (d .held)))
+        passed-remains (f .held) came (a .reached) more (λ e. last (ap (λ n. eqb n 0) (sym same) ∙ e))
+        ∙ ap (text ++_) (ap₂ (λ n h. cond (eqb n 0) [] (remaining h more)) same (sym (d .held)))
 
     pub turn-done : 0 < f .allowed → TurnMade f next
     turn-done l = record {
@@ -200,7 +192,7 @@ module _ (f : Flow) (B : List ℕ) (a : Along f) (on : f .ended ≡ false) (good
         told = told-wrote
             (now-told (ap (λ b. eqb (r .count) 0 && not b) came-well ∙ and-true (eqb (r .count) 0)) came-well refl) refl went text whole
             (sent ∙ ap (λ y. wrote (f .output) y whole) (d .text .text));
-        rewrites = turn-rewrites;
+        rewrites = follows-wrote read-rewrites _ now-written left-then;
       };
       fewer = omega arith;
     }
@@ -236,10 +228,8 @@ pub streamed : (f : Flow) → Along f → isOver f ≡ true → Streamed f
 streamed f a over = record {
   reads = a .reads;
   writes = a .writes;
-  told = a .told;
+  streams = streams (a .told) (a .rewrites) (λ whole more last. ap (λ x. cond x [] (remaining (f .held) more)) (whole .0));
   over = λ e u g. omega (arith, a .made, used-up e u g);
-  all = λ e went. sym (all-written e);
-  begins = λ more last. (stillLeft f more, a .rewrites more last);
 }
   where
     fourth : (x y z w : Bool) → ((x || y) || z) || w ≡ true → x ≡ false → y ≡ false → z ≡ false → w ≡ true
@@ -250,8 +240,3 @@ streamed f a over = record {
 
     used-up : f .ended ≡ false → f .unread ≡ false → f .failed ≡ false → f .allowed ≡ 0
     used-up e u g = eqb-true (f .allowed) 0 (fourth (f .ended) (f .unread) (f .failed) (eqb (f .allowed) 0) over e u g)
-
-    all-written : f .ended ≡ true → rewritten (bytesOf (a .reads)) ≡ handedOver (a .writes)
-    all-written e =
-        ap rewritten (sym (append-nil (bytesOf (a .reads)))) ∙ a .rewrites [] (λ _. refl)
-        ∙ ap (λ x. handedOver (a .writes) ++ cond x [] (remaining (f .held) [])) e ∙ append-nil (handedOver (a .writes))

@@ -1,13 +1,14 @@
 -- What the program knows between turns.
 use mathlib.Core.Path.{_≡_}
-use mathlib.Core.List.{List, [], _++_}
-use mathlib.Core.Bool.{true, false, cond}
+use mathlib.Core.List.{List, []}
+use mathlib.Core.Bool.{false, cond}
 use Prim.Native.Nat.{ℕ, _+_, _<_}
 use lib.Dec.{eqb}
 use lib.ListN.{length}
 use Rattle.model.specs.Rewrite.{rewritten}
 use Rattle.console.specs.Trace.{noInput, noOutput}
-use Rattle.console.specs.History.{Read, bytesOf, Write, handedOver, Told}
+use Rattle.console.specs.History.{Read, Write, Told}
+use Rattle.console.specs.Streams.{Follows}
 use Rattle.rewriting.specs.declared.Held.{Held}
 use Rattle.rewriting.specs.Given as Rewriting
 use Rattle.rewriting.specs.Given.{heldBytes, Handed, manyBytes}
@@ -43,8 +44,7 @@ pub record Along (f : Flow) : Type 0 where
   pub made : length reads + f .allowed ≡ mostReads
   pub told : Told (f .input) (f .output) (f .ended) (f .unread) (f .failed) reads writes
   -- what was written, and what is still to be
-  pub rewrites : (more : List ℕ) → (f .ended ≡ true → more ≡ [])
-      → rewritten (bytesOf reads ++ more) ≡ handedOver writes ++ stillLeft f more
+  pub rewrites : Follows rewritten (stillLeft f) (f .ended) reads writes
 
 -- after one turn more
 pub record TurnMade (f r : Flow) : Type 0 where

@@ -7,23 +7,26 @@ use denote.Ref.{now}
 use borrow.Author.Needs.{needs}
 use native.Mathlib.Omega.{arith}
 use Rattle.text.specs.Lines.{longestLine}
-use Rattle.feeding.specs.Fed.{oneTurn, canTurn}
+use Rattle.streams.specs.Machine.{canTurn}
+use Rattle.streams.proofs.Ready.{ready-on}
+use Rattle.streams.proofs.Underway.{Underway, turnsLeft, room-left}
+use Rattle.streams.proofs.Underway.{underway-begins, underway-ends, underway-goes-on, underway-falls}
+use Rattle.feeding.specs.Fed.{oneTurn, feeder}
 use Rattle.feeding.specs.Done.{Done}
-use Rattle.feeding.specs.Reached.{turnsLeft}
-use Rattle.feeding.proofs.Turns.{ready-on}
-use Rattle.feeding.proofs.Underway.{Underway, from-part, ready-here, room-left}
-use Rattle.feeding.proofs.Underway.{underway-begins, underway-ends, underway-goes-on, underway-falls}
+use Rattle.feeding.specs.Reached.{Placed}
+use Rattle.feeding.proofs.OneTurn.{lawful}
+use Rattle.feeding.proofs.Underway.{from-part, ready-here}
 use Rattle.feeding.proofs.feed.Statement.{statement}
 use Rattle.feeding.proofs.feed.Tie as tie
 
 abbrev Inv-loop : tie.InvT-loop
 Inv-loop rest ended out₀ numbers₀ exponents₀ progress₀ used₀ written₀ out numbers exponents progress used written =
     (length out ≡ length out₀) × (length numbers ≡ length numbers₀) × (length exponents ≡ length exponents₀)
-    × Underway ended (length out₀) progress₀ rest out₀ progress used written out
+    × Underway lawful ended (length out₀) progress₀ rest out₀ progress used written out × Placed progress
 
 abbrev μ-loop : tie.MeasureT-loop
 μ-loop rest ended out₀ numbers₀ exponents₀ progress₀ used₀ written₀ out numbers exponents progress used written =
-    turnsLeft progress
+    turnsLeft lawful ended (length out₀) progress₀ rest out₀ progress used
 
 -- from a turn back to the test of the loop, the loop and the start
 abbrev tested : (c : tie.After-turn Inv-loop μ-loop) → tie.Then1 Inv-loop μ-loop
@@ -37,7 +40,7 @@ started c = looped c .before .before .before .before
 
 -- the test
 can : (c : tie.Then1 Inv-loop μ-loop) → (let l = looped c .loop in let s = started c .args in
-    canTurn (l .progress .done) (s .ended) (length (now (s .out)) - l .written) (drop (l .used) (now (s .rest))) ≡ true)
+    canTurn feeder (s .ended) (length (now (s .out)) - l .written) (l .progress) (drop (l .used) (now (s .rest))) ≡ true)
 can c =
     let l = looped c .loop in
     let s = started c .args in
@@ -54,16 +57,16 @@ module _ (c : tie.After-turn Inv-loop μ-loop) where
       from-part (l .progress) (now (started (tested c) .args .rest)) (l .used) (c .turn .ensures .0)
 
   next : (let l = looped (tested c) .loop in let s = started (tested c) .args in let r = c .turn .result in
-      Underway (s .ended) (length (now (s .out))) (s .p) (now (s .rest)) (now (s .out)) (r .progress) (l .used + r .used) (r .written)
+      Underway lawful (s .ended) (length (now (s .out))) (s .p) (now (s .rest)) (now (s .out)) (r .progress) (l .used + r .used) (r .written)
       (c .turn .last .1 .1 .0))
   next =
       let s = started (tested c) .args in
-      underway-goes-on _ _ (s .p) _ _ (looped (tested c) .loop .inv .3) (can (tested c)) made (c .turn .ensures .1)
+      underway-goes-on lawful _ _ (s .p) _ _ (looped (tested c) .loop .inv .3) (can (tested c)) made
 
 loop-holds : tie.Need-loop-holds Inv-loop μ-loop
 loop-holds c =
     let s = c .before .before .before in
-    (refl, refl, refl, underway-begins _ _ (s .args .p) _ _ (s .pre .0) (s .pre .1))
+    (refl, refl, refl, underway-begins lawful _ _ (s .args .p) _ _ (s .pre .0), s .pre .1)
 
 sub-can-turn : tie.Need-sub-can-turn Inv-loop μ-loop
 sub-can-turn c = c .loop .inv .3 .within
@@ -95,9 +98,9 @@ turn-requires c κs =
     let l = looped t .loop in
     let s = started t in (
       l .inv .3 .reached,
-      l .inv .3 .placed,
-      ready-on _ _ (l .progress) _ (can t),
-      omega (arith, l .inv .0, room-left _ _ (s .args .p) _ _ (l .inv .3) (can t)),
+      l .inv .4,
+      ready-on _ _ _ _ _ (can t),
+      omega (arith, l .inv .0, room-left lawful _ _ (s .args .p) _ _ (l .inv .3) (can t)),
       omega (arith, l .inv .1, s .pre .2),
       omega (arith, l .inv .2, s .pre .3),
     )
@@ -111,14 +114,14 @@ loop-less : tie.Need-loop-less Inv-loop μ-loop
 loop-less c =
     let t = c .before .before .before .before .before .before .before in
     let k = tested t in
-    underway-falls _ _ (started k .args .p) _ _ (looped k .loop .inv .3) (can k) (made t)
+    underway-falls lawful _ _ (started k .args .p) _ _ (looped k .loop .inv .3) (can k) (made t)
 
 loop-again : tie.Need-loop-again Inv-loop μ-loop
 loop-again c =
     let t = c .before .before .before .before .before .before .before in
     let i = looped (tested t) .loop .inv in
     let k = t .turn .kept in
-    (k .1 .1 .0 ∙ i .0, k .1 .1 .1 .1 .0 ∙ i .1, k .1 .1 .1 .1 .1 .0 ∙ i .2, next t)
+    (k .1 .1 .0 ∙ i .0, k .1 .1 .1 .1 .0 ∙ i .1, k .1 .1 .1 .1 .1 .0 ∙ i .2, next t, t .turn .ensures .1)
 
 same-length : tie.Need-same-length Inv-loop μ-loop
 same-length c = c .before .before .before .loop .inv .0
@@ -135,7 +138,7 @@ returns c =
     let s = c .before .before .before .before .before .before .before in
     let no = ready-here (l .progress .done) (s .args .ended) (now (s .args .rest)) (l .used) (l .written) (length (l .out))
     (length (now (s .args .out))) (c .before .can-turn .ensures) (l .inv .0) (c .if1 .left) in
-    (underway-ends _ _ (s .args .p) _ _ (l .inv .3) no, l .inv .3 .placed)
+    (underway-ends lawful _ _ (s .args .p) _ _ (l .inv .3) no, l .inv .4)
 
 pub feed-spec : {M : Type 1} → statement M
 feed-spec =
