@@ -8,7 +8,7 @@ use lib.Dec.{T, ltb, ltb→lt, nltb→le}
 use borrow.Author.Tests.{eq-eqb, ne_eqb}
 use mir.Facts.{and_yes}
 use Rattle.rational.specs.Rational.{◌*ℚ◌, 1ℚ}
-use Rattle.rational.specs.Ring.{one-*ℚ}
+use Rattle.rational.proofs.Ring.{one-*ℚ}
 use Rattle.rational.specs.Power.{power}
 use Rattle.model.specs.Valid.{rises}
 use Rattle.model.specs.Operations.{insert_identifier, union, align}

@@ -4,7 +4,7 @@ use mathlib.Core.List.{List}
 use mathlib.Core.Logic.{◌↔◌}
 use Prim.Native.Nat.{ℕ}
 use Rattle.rational.specs.Rational.{◌+ℚ◌, ι}
-use Rattle.rational.specs.Near.{near_as}
+use Rattle.rational.proofs.Near.{near_as}
 use Rattle.model.specs.Set.{Term, Zonotope, at}
 use Rattle.model.specs.Points.{Vector, terms_at, generators_at, value_at, Point}
 use Rattle.model.proofs.Covers.{Covers}

@@ -10,10 +10,11 @@ use Rattle.whole.specs.Round.{scale, round}
 use Rattle.whole.specs.Sum.{sum_by, sum_ℕ, upto_ℕ, upto_bound}
 use Rattle.whole.specs.Tab.{tab, get_d_tab}
 use Rattle.rational.specs.Rational.{ℚ, ◌+ℚ◌, ◌*ℚ◌, neg_ℚ, ι, ½, ◌≤ℚ◌}
-use Rattle.rational.specs.Ring.{+ℚ-assoc, +ℚ-zero, zero-+ℚ, +ℚ-neg, *ℚ-comm, *ℚ-+ℚ, half_twice}
-use Rattle.rational.specs.Sign.{NonNeg-ι}
-use Rattle.rational.specs.Bounds.{within-neg}
-use Rattle.rational.specs.Near.{Near, near_refl, near_trans, near_as}
+use Rattle.rational.proofs.Ring.{+ℚ-assoc, +ℚ-zero, zero-+ℚ, +ℚ-neg, *ℚ-comm, *ℚ-+ℚ, half_twice}
+use Rattle.rational.proofs.Sign.{NonNeg-ι}
+use Rattle.rational.proofs.Bounds.{within-neg}
+use Rattle.rational.specs.Near.{Near}
+use Rattle.rational.proofs.Near.{near_refl, near_trans, near_as}
 use Rattle.rational.specs.Sum.{none}
 use Rattle.model.specs.Limits.{max_terms, max_generators}
 use Rattle.model.specs.Set.{Zonotope, at, radius, term_sizes, generator_sizes, independent_size}

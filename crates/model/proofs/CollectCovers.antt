@@ -9,8 +9,8 @@ use lib.IntN.{ℤ, pos, negsuc}
 use mir.Facts.{and_yes, T_not-not}
 use Rattle.whole.specs.Tab.{all}
 use Rattle.rational.specs.Rational.{ℚ, ◌+ℚ◌, ◌*ℚ◌, ι, 0ℚ}
-use Rattle.rational.specs.Ring.{ring, +ℚ-assoc, +ℚ-zero, +ℚ-comm, zero-+ℚ, zero-*ℚ, +ℚ-left}
-use Rattle.rational.specs.Pinned.{ι-+}
+use Rattle.rational.proofs.Ring.{ring, +ℚ-assoc, +ℚ-zero, +ℚ-comm, zero-+ℚ, zero-*ℚ, +ℚ-left}
+use Rattle.rational.proofs.Pinned.{ι-+}
 use Rattle.rational.specs.Sum.{sum}
 use Rattle.model.specs.Set.{Term, Zonotope, at}
 use Rattle.model.specs.Valid.{Order, less, equal, greater, order, zeros, is_zero}

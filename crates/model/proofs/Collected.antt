@@ -1,7 +1,8 @@
 -- Collected terms rise strictly, and a property of terms that adding keeps is kept.
 use mathlib.Core.Path.{◌≡◌, refl}
 use mathlib.Core.List.{List, [], ◌∷◌}
-use Rattle.rational.specs.Sum.{All, none, more, All-imp}
+use Rattle.rational.specs.Sum.{All, none, more}
+use Rattle.rational.proofs.Sum.{All-imp}
 use Rattle.model.specs.Set.{Term}
 use Rattle.model.specs.Valid.{Order, less, equal, greater, order}
 use Rattle.model.specs.Finish.{by_order, plus_term, insert, collect_into, collect}
@@ -22,7 +23,7 @@ module _ {P : Term → Type 0} (adds : (u t : Term) → P u → P t → P (plus_
   into_all : {acc ts : List Term} → All P acc → All P ts → All P (collect_into acc ts)
   unfolding collect_into
   into_all a none = a
-  into_all a (more h t) = into_all (insert_all h a) t
+  into_all {acc = acc} a (more {a = u} h t) = into_all {acc = insert u acc} (insert_all h a) t
 
   pub collect-all : {ts : List Term} → All P ts → All P (collect ts)
   collect-all h = into_all none h
@@ -40,7 +41,7 @@ insert_rising t (first {a = u} {l = l} h r) = go (order t.exponents u.exponents)
 into_rising : {acc : List Term} (ts : List Term) → Rising Before acc → Rising Before (collect_into acc ts)
 unfolding collect_into
 into_rising [] r = r
-into_rising (t ∷ ts) r = into_rising ts (insert_rising t r)
+into_rising {acc = acc} (t ∷ ts) r = into_rising {acc = insert t acc} ts (insert_rising t r)
 
 pub collect_rising : (ts : List Term) → Rising Before (collect ts)
 collect_rising ts = into_rising ts nothing

@@ -1,6 +1,6 @@
 -- The ends of a linear function over a set enclose its value at every point.
 use mathlib.Core.Path.{◌≡◌, refl, sym, ◌∙◌, ap, ap₂, subst, subst₂, fun_ext}
-use mathlib.Core.List.{List, [], ◌∷◌, ◌++◌}
+use mathlib.Core.List.{List, [], ◌∷◌}
 use mathlib.Core.Bool.{Bool, true, false}
 use Prim.Native.Nat.{ℕ, zero, suc, ◌+◌}
 use native.Mathlib.Omega.{arith}
@@ -10,13 +10,16 @@ use Rattle.whole.specs.AsNaturals.{as_ℕ}
 use Rattle.whole.specs.Size.{abs_neg}
 use Rattle.whole.specs.Sum.{sum_by, sum_ℕ, sum_ℤ}
 use Rattle.rational.specs.Rational.{ℚ, ◌+ℚ◌, ◌*ℚ◌, neg_ℚ, ι, 0ℚ, 1ℚ, NonNeg, ◌≤ℚ◌}
-use Rattle.rational.specs.Ring.{+ℚ-assoc, *ℚ-one, neg_ℚ-+, neg_ℚ-*, neg_ℚ-neg_ℚ}
-use Rattle.rational.specs.Pinned.{ι-+, ι-neg}
-use Rattle.rational.specs.Sign.{NonNeg-*, NonNeg-ι}
-use Rattle.rational.specs.Order.{NonNeg-≤, ≤ℚ-refl, ≤ℚ-+, ≤ℚ-*, ≤ℚ-neg}
-use Rattle.rational.specs.Bounds.{Within, within-+, within-NonNeg, within-scaled, within-ι}
-use Rattle.rational.specs.Near.{Near, near_neg, near_as}
-use Rattle.rational.specs.Sum.{sum, sum-++, All, none, more}
+use Rattle.rational.proofs.Ring.{+ℚ-assoc, *ℚ-one, neg_ℚ-+, neg_ℚ-*, neg_ℚ-neg_ℚ}
+use Rattle.rational.proofs.Pinned.{ι-+, ι-neg}
+use Rattle.rational.proofs.Sign.{NonNeg-*, NonNeg-ι}
+use Rattle.rational.proofs.Order.{NonNeg-≤, ≤ℚ-refl, ≤ℚ-+, ≤ℚ-*, ≤ℚ-neg}
+use Rattle.rational.specs.Bounds.{Within}
+use Rattle.rational.proofs.Bounds.{within-+, within-NonNeg, within-scaled, within-ι}
+use Rattle.rational.specs.Near.{Near}
+use Rattle.rational.proofs.Near.{near_neg, near_as}
+use Rattle.rational.specs.Sum.{sum, All, none, more}
+use Rattle.rational.proofs.Sum.{sum-++}
 use Rattle.model.specs.Set.{Term, Zonotope}
 use Rattle.model.specs.Finish.{all_even}
 use Rattle.model.specs.Operations.{least, greatest, low_end, high_end}

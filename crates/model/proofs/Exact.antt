@@ -1,7 +1,6 @@
 -- The sums and the disturbance are exact: a point of a sum that folds nothing is the sum of a point of each summand, and the other way
 -- round.
 use mathlib.Core.Path.{◌≡◌, sym, ◌∙◌, ap, subst}
-use mathlib.Core.List.{List}
 use mathlib.Core.Bool.{true}
 use mathlib.Core.Logic.Iff
 use mathlib.Core.Logic.{◌↔◌}
@@ -11,16 +10,17 @@ use lib.Dec.{ltb}
 use lib.ListN.{length, get_or, length-append}
 use lib.IntN.{pos}
 use Rattle.rational.specs.Rational.{ℚ, ◌+ℚ◌, ι, 0ℚ}
-use Rattle.rational.specs.Ring.{+ℚ-zero, zero-+ℚ}
+use Rattle.rational.proofs.Ring.{+ℚ-zero, zero-+ℚ}
 use Rattle.rational.specs.Bounds.{Within}
-use Rattle.rational.specs.Near.{Near, near_as}
-use Rattle.rational.specs.Sum.{All, All-imp}
+use Rattle.rational.specs.Near.{Near}
+use Rattle.rational.proofs.Near.{near_as}
+use Rattle.rational.proofs.Sum.{All-imp}
 use Rattle.model.specs.Set.{Zonotope, radius}
 use Rattle.model.specs.Valid.{rises}
 use Rattle.model.specs.Limits.{max_terms, max_generators}
 use Rattle.model.specs.Operations.{joined, tied_sum, renumbered, independent_sum, disturb}
 use Rattle.model.specs.Points.{Vector, value_at, Point}
-use Rattle.model.specs.Precision.{FoldsNothing, Split, TiedExact, IndependentExact, Moved, DisturbedExact}
+use Rattle.model.specs.Precision.{Split, TiedExact, IndependentExact, DisturbedExact}
 use Rattle.model.proofs.Radii.{radius-plus, radius-disturbed}
 use Rattle.model.proofs.FoldCovers.{cut}
 use Rattle.model.proofs.FoldsNothing.{finish-exact}

@@ -9,7 +9,8 @@ use native.Mathlib.Omega.{arith}
 use lib.Dec.{ltb}
 use lib.ListN.{length, length-map}
 use Rattle.whole.specs.Tab.{any}
-use Rattle.rational.specs.Sum.{All, none, more, All-imp, All-map}
+use Rattle.rational.specs.Sum.{All, none, more}
+use Rattle.rational.proofs.Sum.{All-imp, All-map}
 use Rattle.model.specs.Set.{Term, Zonotope}
 use Rattle.model.specs.Valid.{factorless, zeros, occurs}
 use Rattle.model.specs.Finish.{keep_at, keep_exponents, collect_terms, drop_zero_terms, drop_zero_generators, fold_high, fold_terms}

@@ -5,7 +5,8 @@ use mathlib.Core.Bool.{Bool, true, false}
 use Prim.Native.Nat.{ℕ, suc, ◌+◌, ◌<◌, ◌≤◌}
 use native.Mathlib.Omega.{arith}
 use lib.ListN.{length}
-use Rattle.rational.specs.Sum.{All, none, more, All-imp, All-++}
+use Rattle.rational.specs.Sum.{All, none, more}
+use Rattle.rational.proofs.Sum.{All-imp, All-++}
 use Rattle.model.specs.Limits.{max_terms, max_generators}
 use Rattle.model.specs.Set.{Term, Zonotope}
 use Rattle.model.specs.Valid.{zeros, occurs}

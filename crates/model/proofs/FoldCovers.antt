@@ -8,10 +8,12 @@ use lib.ListN.{length, get_or, length-append, get_or-map}
 use lib.IntN.{ℤ, pos, ◌+ℤ◌}
 use Rattle.whole.specs.Half.{half-parts, half_of-zero}
 use Rattle.rational.specs.Rational.{ℚ, ◌+ℚ◌, ι, 1ℚ}
-use Rattle.rational.specs.Pinned.{ι-+}
+use Rattle.rational.proofs.Pinned.{ι-+}
 use Rattle.rational.specs.Bounds.{Within}
-use Rattle.rational.specs.Near.{Near, near_as}
-use Rattle.rational.specs.Sum.{All, none, more, All-++}
+use Rattle.rational.specs.Near.{Near}
+use Rattle.rational.proofs.Near.{near_as}
+use Rattle.rational.specs.Sum.{All, none, more}
+use Rattle.rational.proofs.Sum.{All-++}
 use Rattle.model.specs.Set.{Term, Radii, Zonotope, at, radius_of, with_folded}
 use Rattle.model.specs.Finish.{Core, shift, growth, fold_vector, fold_term, fold_generator, with_terms, with_generators}
 use Rattle.model.specs.Points.{Vector, Point, InRange}

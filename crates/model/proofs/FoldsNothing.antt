@@ -4,7 +4,8 @@ use mathlib.Core.List.{List, [], ◌∷◌}
 use mathlib.Core.Bool.{Bool, false, not}
 use mathlib.Core.Logic.{◌↔◌}
 use Prim.Native.Nat.{ℕ}
-use Rattle.rational.specs.Sum.{All, none, more, All-imp}
+use Rattle.rational.specs.Sum.{All, none, more}
+use Rattle.rational.proofs.Sum.{All-imp}
 use Rattle.model.specs.Set.{Zonotope}
 use Rattle.model.specs.Finish.{core, those, fold_all, fold_term, too_high, with_terms}
 use Rattle.model.specs.Finish.{fold_high, fold_terms, fold_generators, drop_unused, finish}

@@ -3,8 +3,9 @@ use mathlib.Core.Path.{◌≡◌, sym, ◌∙◌, ap, ap₂, fun_ext}
 use mathlib.Core.List.{List}
 use Prim.Native.Nat.{ℕ}
 use Rattle.rational.specs.Rational.{ℚ, ◌+ℚ◌, ◌*ℚ◌}
-use Rattle.rational.specs.Ring.{ring, +ℚ-comm, *ℚ-comm, *ℚ-+ℚ}
-use Rattle.rational.specs.Sum.{sum, sum-+, sum-*, sum_cong, sum-swap}
+use Rattle.rational.proofs.Ring.{ring, +ℚ-comm, *ℚ-comm, *ℚ-+ℚ}
+use Rattle.rational.specs.Sum.{sum}
+use Rattle.rational.proofs.Sum.{sum-+, sum-*, sum_cong, sum-swap}
 use Rattle.model.specs.Points.{Vector}
 
 -- ---- the sum of two vectors, and a vector times a number

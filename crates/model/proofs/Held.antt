@@ -8,7 +8,8 @@ use native.Mathlib.Nat.{le_trans}
 use native.Mathlib.Omega.{arith}
 use lib.ListN.{length, length-append}
 use borrow.Author.Tests.{ltb-false}
-use Rattle.rational.specs.Sum.{All, none, more, All-imp, All-++}
+use Rattle.rational.specs.Sum.{All, none, more}
+use Rattle.rational.proofs.Sum.{All-imp, All-++}
 use Rattle.model.specs.Limits.{max_dimension, max_factors, max_terms, max_generators}
 use Rattle.model.specs.Set.{Zonotope}
 use Rattle.model.specs.Valid.{bad_counts, bad_order, is_too_wide}

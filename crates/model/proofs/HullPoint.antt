@@ -2,7 +2,7 @@
 use mathlib.Core.Path.{◌≡◌, refl, sym, ◌∙◌, ap, ap₂, subst}
 use mathlib.Core.List.{List, [], ◌∷◌, ◌++◌, map}
 use mathlib.Core.Bool.{Bool, true, false, cond}
-use Prim.Native.Nat.{ℕ, ◌+◌, ◌*◌, ◌<◌, ◌≤◌}
+use Prim.Native.Nat.{ℕ, ◌*◌, ◌<◌, ◌≤◌}
 use native.Mathlib.Omega.{arith}
 use lib.Dec.{ltb}
 use borrow.Author.Tests.{ltb-true, ltb-false, lt-ltb, le-ltb}
@@ -10,17 +10,20 @@ use lib.ListN.{length, replicate, length-replicate}
 use lib.IntN.{ℤ, pos, neg_ℤ, ◌*ℤ◌}
 use Rattle.whole.specs.Round.{scale}
 use Rattle.whole.specs.Tab.{get_d_tab}
-use Rattle.rational.specs.Rational.{ℚ, ◌+ℚ◌, ◌*ℚ◌, neg_ℚ, ι, ½, 0ℚ, 1ℚ, NonNeg, ◌≤ℚ◌}
-use Rattle.rational.specs.Ring.{ring, +ℚ-assoc, *ℚ-assoc, one-*ℚ, *ℚ-one, half_twice, +ℚ-neg, +ℚ-comm, +ℚ-zero, zero-*ℚ, neg_ℚ-neg_ℚ}
-use Rattle.rational.specs.Ring.{neg_ℚ-*, *ℚ-neg_ℚ}
-use Rattle.rational.specs.Pinned.{ι-+, ι-*, ι-neg}
+use Rattle.rational.specs.Rational.{ℚ, ◌+ℚ◌, ◌*ℚ◌, neg_ℚ, ι, ½, 0ℚ, 1ℚ, NonNeg}
+use Rattle.rational.proofs.Ring.{ring, +ℚ-assoc, *ℚ-assoc, one-*ℚ, *ℚ-one, half_twice, +ℚ-neg, +ℚ-comm, +ℚ-zero, zero-*ℚ, neg_ℚ-neg_ℚ}
+use Rattle.rational.proofs.Ring.{neg_ℚ-*, *ℚ-neg_ℚ}
+use Rattle.rational.proofs.Pinned.{ι-+, ι-*, ι-neg}
 use Rattle.rational.specs.Power.{power}
-use Rattle.rational.specs.Sign.{NonNeg-*, NonNeg-ι, NonNeg-½}
-use Rattle.rational.specs.Order.{gap, ≤ℚ-refl, ι-mono}
-use Rattle.rational.specs.Bounds.{Within, within-+, within-*, within_mono, within-neg, within-one, within-NonNeg}
-use Rattle.rational.specs.Near.{Near, near_as}
+use Rattle.rational.proofs.Sign.{NonNeg-*, NonNeg-ι, NonNeg-½}
+use Rattle.rational.proofs.Order.{gap, ≤ℚ-refl, ι-mono}
+use Rattle.rational.specs.Bounds.{Within}
+use Rattle.rational.proofs.Bounds.{within-+, within-*, within_mono, within-neg, within-one, within-NonNeg}
+use Rattle.rational.specs.Near.{Near}
+use Rattle.rational.proofs.Near.{near_as}
 use Rattle.rational.specs.Sum as Sum
-use Rattle.rational.specs.Sum.{sum, sum-*, sum-map, sum_cong, sum_cong_all, All, All-imp, All-++}
+use Rattle.rational.specs.Sum.{sum, All}
+use Rattle.rational.proofs.Sum.{sum-*, sum-map, sum_cong, sum_cong_all, All-imp, All-++}
 use Rattle.model.specs.Limits.{max_terms, max_generators}
 use Rattle.model.specs.Set.{Term, Zonotope, at, generator_sizes, independent_size}
 use Rattle.model.specs.Valid.{rises}

@@ -7,7 +7,8 @@ use lib.Dec.{eqb}
 use lib.ListN.{length, length-map, length-append, replicate, length-replicate}
 use lib.IntN.{pos, ◌*ℤ◌}
 use Rattle.whole.specs.Tab.{all, length-tab}
-use Rattle.rational.specs.Sum.{All, none, more, All-imp, All-map, All-++}
+use Rattle.rational.specs.Sum.{All, none, more}
+use Rattle.rational.proofs.Sum.{All-imp, All-map, All-++}
 use Rattle.model.specs.Set.{Term, Zonotope}
 use Rattle.model.specs.Valid.{factorless}
 use Rattle.model.specs.Operations.{union, joined}

@@ -11,7 +11,7 @@ use Rattle.model.specs.Set.{Zonotope}
 use Rattle.model.specs.Finish.{those}
 use Rattle.model.specs.Field.{Outcome}
 use Rattle.model.specs.Run.{State, begin, meant, first_of, misplaced, cut, causes}
-use Rattle.model.specs.Run.{accepted_by, after, outcome, run, field_length, first_field, fields, fields_within}
+use Rattle.model.specs.Run.{accepted_by, after, run, field_length, first_field, fields, fields_within}
 use Rattle.model.specs.Rewrite.{empty_disturbance, others, rewritten}
 use Rattle.model.specs.OldRun.{old_causes, old_refusal, old_after, old_outcome, old_run, results, old_results, numbered}
 use Rattle.model.specs.OldRun.{counting, KeepsResults}

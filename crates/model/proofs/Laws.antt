@@ -13,7 +13,8 @@ use Rattle.whole.specs.Tab.{tab, any, length-tab}
 use Rattle.rational.specs.Rational.{ℚ, ◌+ℚ◌, ι, 1ℚ}
 use Rattle.rational.specs.Bounds.{Within}
 use Rattle.rational.specs.Sum as Sum
-use Rattle.rational.specs.Sum.{All, All-imp, more}
+use Rattle.rational.specs.Sum.{All, more}
+use Rattle.rational.proofs.Sum.{All-imp}
 use Rattle.model.specs.Limits.{max_dimension, max_factors, file_identifiers, first_fresh}
 use Rattle.model.specs.Set.{Zonotope, radius}
 use Rattle.model.specs.Valid.{rises}

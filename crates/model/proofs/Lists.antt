@@ -3,7 +3,8 @@ use mathlib.Core.List.{List, [], ◌∷◌, map}
 use Prim.Native.Nat.{◌≤◌}
 use native.Mathlib.Omega.{arith}
 use lib.ListN.{length}
-use Rattle.rational.specs.Sum.{All, none, more, All-imp, All-map}
+use Rattle.rational.specs.Sum.{All, none, more}
+use Rattle.rational.proofs.Sum.{All-imp, All-map}
 
 pub data Rising {A : Type 0} (Before : A → A → Type 0) : List A → Type 0 where
   nothing : Rising Before []
@@ -22,7 +23,7 @@ module _ {A : Type 0} where
 
   pub sublist_trans : {j k l : List A} → Sublist j k → Sublist k l → Sublist j l
   sublist_trans r empty = r
-  sublist_trans (keep r) (keep s) = keep (sublist_trans r s)
+  sublist_trans (keep {k = j} r) (keep s) = keep (sublist_trans {j = j} r s)
   sublist_trans (skip r) (keep s) = skip (sublist_trans r s)
   sublist_trans r (skip s) = skip (sublist_trans r s)
 

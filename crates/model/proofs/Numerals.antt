@@ -9,7 +9,8 @@ use borrow.Author.Tests.{lt-ltb, le-ltb, ne_eqb}
 use lib.Dec.{eqb}
 use lib.IntN.{ℤ, pos, negsuc, neg_ℤ}
 use lib.Signed.{lt_z}
-use Rattle.rational.specs.Sum.{All, none, more, All-++}
+use Rattle.rational.specs.Sum.{All, none, more}
+use Rattle.rational.proofs.Sum.{All-++}
 use Rattle.model.specs.Bytes.{byte}
 use Rattle.model.specs.Text.{ascii, digit, decimal_within, decimal, signed_decimal}
 

@@ -4,7 +4,7 @@
 use native.Mathlib.Omega.{arith}
 use mathlib.Core.Path.{◌≡◌, refl, ◌∙◌, ap₂, subst}
 use mathlib.Core.List.{List, [], ◌∷◌, ◌++◌}
-use Prim.Native.Nat.{ℕ, zero, suc, ◌+◌, ◌<◌}
+use Prim.Native.Nat.{ℕ, zero, suc, ◌<◌}
 use lib.Dec.{T, lit<}
 use lib.ListN.{get_or}
 use lib.IntN.{ℤ, pos, negsuc}
@@ -12,11 +12,12 @@ use Rattle.whole.specs.Half.{half, half_size}
 use Rattle.whole.specs.Sum.{sum_by, upto_by}
 use Rattle.whole.specs.Tab.{tab, any, all}
 use Rattle.rational.specs.Rational.{ℚ, ◌+ℚ◌, ◌*ℚ◌, neg_ℚ, ι, 0ℚ, 1ℚ, ◌≤ℚ◌}
-use Rattle.rational.specs.Ring.{+ℚ-zero, zero-+ℚ, *ℚ-one, *ℚ-neg_ℚ}
-use Rattle.rational.specs.Pinned.{ι-+, ι-neg, ι-≤}
-use Rattle.rational.specs.Sign.{NonNeg-ι}
-use Rattle.rational.specs.Order.{NonNeg-≤}
-use Rattle.rational.specs.Bounds.{Within, within-one, within-neg, within-NonNeg}
+use Rattle.rational.proofs.Ring.{+ℚ-zero, zero-+ℚ, *ℚ-one, *ℚ-neg_ℚ}
+use Rattle.rational.proofs.Pinned.{ι-+, ι-neg, ι-≤}
+use Rattle.rational.proofs.Sign.{NonNeg-ι}
+use Rattle.rational.proofs.Order.{NonNeg-≤}
+use Rattle.rational.specs.Bounds.{Within}
+use Rattle.rational.proofs.Bounds.{within-one, within-neg, within-NonNeg}
 use Rattle.rational.specs.Power.{power, even}
 use Rattle.rational.specs.Sum.{sum}
 use Rattle.model.specs.Limits.{first_fresh}

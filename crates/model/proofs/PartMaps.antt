@@ -7,10 +7,12 @@ use lib.ListN.{length}
 use lib.IntN.{ℤ, pos, nat_abs}
 use Rattle.whole.specs.Sum.{sum_by, sum_ℕ}
 use Rattle.rational.specs.Rational.{ℚ, ◌+ℚ◌, ◌*ℚ◌, ι, 0ℚ}
-use Rattle.rational.specs.Ring.{*ℚ-zero}
-use Rattle.rational.specs.Pinned.{ι-+}
-use Rattle.rational.specs.Bounds.{Within, within-ι, within-scaled}
-use Rattle.rational.specs.Sum.{sum, sum-map, sum-within, All, All-imp}
+use Rattle.rational.proofs.Ring.{*ℚ-zero}
+use Rattle.rational.proofs.Pinned.{ι-+}
+use Rattle.rational.specs.Bounds.{Within}
+use Rattle.rational.proofs.Bounds.{within-ι, within-scaled}
+use Rattle.rational.specs.Sum.{sum, All}
+use Rattle.rational.proofs.Sum.{sum-map, sum-within, All-imp}
 use Rattle.model.specs.Set.{Term, at}
 use Rattle.model.specs.Points.{Vector}
 use Rattle.model.proofs.Parts.{Part, term_part, generator_part, term_parts, generator_parts, comes, spread, Ranged}

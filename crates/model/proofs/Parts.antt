@@ -2,7 +2,7 @@
 use mathlib.Core.Path.{◌≡◌, refl, sym, ◌∙◌, ap, ap₂, subst}
 use mathlib.Core.List.{List, [], ◌∷◌, ◌++◌}
 use mathlib.Core.Bool.{Bool, true, false}
-use Prim.Native.Nat.{ℕ, ◌+◌, ◌-◌, ◌<◌, ◌≤◌}
+use Prim.Native.Nat.{ℕ, ◌<◌}
 use native.Mathlib.Omega.{arith}
 use lib.Dec.{T}
 use lib.ListN.{length}
@@ -12,14 +12,18 @@ use Rattle.whole.specs.AsNaturals.{as_ℕ}
 use Rattle.whole.specs.Half.{half, half_size, half-zero, half_end}
 use Rattle.whole.specs.Tab.{all}
 use Rattle.rational.specs.Rational.{ℚ, ◌+ℚ◌, ◌*ℚ◌, neg_ℚ, ◌-ℚ◌, ι, 0ℚ, 1ℚ, NonNeg, ◌≤ℚ◌}
-use Rattle.rational.specs.Ring.{ring, +ℚ-assoc, +ℚ-zero, +ℚ-neg, zero-+ℚ, one-*ℚ, *ℚ-one, *ℚ-zero, +ℚ-*ℚ}
-use Rattle.rational.specs.Pinned.{ι-+}
-use Rattle.rational.specs.Sign.{NonNeg-*, NonNeg-ι}
-use Rattle.rational.specs.Order.{gap, gap_eq, ≤ℚ-refl, ι-mono}
-use Rattle.rational.specs.Bounds.{Within, within-+, within-*, within-neg, within_mono, within-NonNeg, within-ι, within-one, within-scaled}
-use Rattle.rational.specs.Near.{Near, near_trans, near_as}
-use Rattle.rational.specs.Power.{power, power-within, power-even, power-+, even}
-use Rattle.rational.specs.Sum.{sum, sum-++, All, none, more, All-++}
+use Rattle.rational.proofs.Ring.{ring, +ℚ-assoc, +ℚ-zero, +ℚ-neg, zero-+ℚ, one-*ℚ, *ℚ-one, *ℚ-zero, +ℚ-*ℚ}
+use Rattle.rational.proofs.Pinned.{ι-+}
+use Rattle.rational.proofs.Sign.{NonNeg-*, NonNeg-ι}
+use Rattle.rational.proofs.Order.{gap, gap_eq, ≤ℚ-refl, ι-mono}
+use Rattle.rational.specs.Bounds.{Within}
+use Rattle.rational.proofs.Bounds.{within-+, within-*, within-neg, within_mono, within-NonNeg, within-ι, within-one, within-scaled}
+use Rattle.rational.specs.Near.{Near}
+use Rattle.rational.proofs.Near.{near_trans, near_as}
+use Rattle.rational.specs.Power.{power, even}
+use Rattle.rational.proofs.Power.{power-within, power-even, power-+}
+use Rattle.rational.specs.Sum.{sum, All, none, more}
+use Rattle.rational.proofs.Sum.{sum-++, All-++}
 use Rattle.model.specs.Set.{Term, Zonotope, at, radius, plus_ℕ, longer}
 use Rattle.model.specs.Finish.{all_even, shift, growth}
 use Rattle.model.specs.Points.{Vector, monomial, terms_at, generators_at, value_at, Point, InRange}

@@ -10,12 +10,9 @@ use Rattle.model.specs.Limits.{max_terms, max_generators, standard_weights}
 use Rattle.model.specs.Set.{Zonotope, at, radius, independent_size}
 use Rattle.model.specs.Finish.{collect_terms, drop_zero_terms, drop_zero_generators, fold_high, fold_terms, fold_generators, drop_unused}
 use Rattle.model.specs.Finish.{finish}
-use Rattle.model.specs.Step as Step
 use Rattle.model.specs.Step.{Step, RawImage, raw, remainder, inexact_at, carried_at, rounded_at, rounded}
 use Rattle.model.specs.Operations.{joined, renumbered}
-use Rattle.model.specs.Ranged as Ranged
 use Rattle.model.specs.Ranged.{gaining_raw}
-use Rattle.model.specs.Hull as Hull
 use Rattle.model.specs.Hull.{larger, blended}
 use Rattle.model.specs.Body.{dimension, radius_words, given_set}
 use Rattle.model.specs.Field.{folds_of}

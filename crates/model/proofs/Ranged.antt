@@ -14,7 +14,8 @@ use lib.ListN.{length, drop, get_or, length-append, get_or-eq_default}
 use lib.IntN.{ℤ, pos, nat_abs}
 use Rattle.whole.specs.Tab.{any, tab_cong, length-tab}
 use Rattle.rational.specs.Sum as Sum
-use Rattle.rational.specs.Sum.{All, more, All-imp, All-map}
+use Rattle.rational.specs.Sum.{All, more}
+use Rattle.rational.proofs.Sum.{All-imp, All-map}
 use Rattle.model.specs.Set.{Zonotope, at, span}
 use Rattle.model.specs.Valid.{is_too_wide}
 use Rattle.model.specs.Limits.{standard_weights, max_entry, max_constant, last_field}

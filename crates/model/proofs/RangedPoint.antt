@@ -7,11 +7,14 @@ use Rattle.whole.specs.Round.{scale}
 use Rattle.whole.specs.Sum.{upto_ℕ}
 use Rattle.whole.specs.Tab.{get_d_tab}
 use Rattle.rational.specs.Rational.{ℚ, ◌+ℚ◌, ◌*ℚ◌, ◌-ℚ◌, ι}
-use Rattle.rational.specs.Ring.{+ℚ-assoc, minus_is}
-use Rattle.rational.specs.Order.{gap_eq}
-use Rattle.rational.specs.Bounds.{Within, within-+, within-*, within-ι}
-use Rattle.rational.specs.Near.{Near, near_as}
-use Rattle.rational.specs.Sum.{sum, sum-*}
+use Rattle.rational.proofs.Ring.{+ℚ-assoc, minus_is}
+use Rattle.rational.proofs.Order.{gap_eq}
+use Rattle.rational.specs.Bounds.{Within}
+use Rattle.rational.proofs.Bounds.{within-+, within-*, within-ι}
+use Rattle.rational.specs.Near.{Near}
+use Rattle.rational.proofs.Near.{near_as}
+use Rattle.rational.specs.Sum.{sum}
+use Rattle.rational.proofs.Sum.{sum-*}
 use Rattle.model.specs.Set.{Zonotope, at, radius, span}
 use Rattle.model.specs.Step.{Step, remainder, raw, rounded}
 use Rattle.model.specs.Ranged.{Widths, linear_width, quadratic_width, gain, gaining_raw, ranged_raw}

@@ -6,9 +6,10 @@ use lib.IntN.{ℤ, pos}
 use Rattle.whole.specs.Round.{scale}
 use Rattle.whole.specs.Tab.{tab, get_d_tab}
 use Rattle.rational.specs.Rational.{ℚ, ◌+ℚ◌, ◌*ℚ◌, ι}
-use Rattle.rational.specs.Ring.{ring, +ℚ-assoc, zero-*ℚ}
-use Rattle.rational.specs.Pinned.{ι-+, ι-*}
-use Rattle.rational.specs.Sum.{sum, sum_cong}
+use Rattle.rational.proofs.Ring.{ring, +ℚ-assoc, zero-*ℚ}
+use Rattle.rational.proofs.Pinned.{ι-+, ι-*}
+use Rattle.rational.specs.Sum.{sum}
+use Rattle.rational.proofs.Sum.{sum_cong}
 use Rattle.model.specs.Set.{Term, Zonotope, at}
 use Rattle.model.specs.Step.{Step, linear_at, quadratic_at, raw_centre, raw_linear, raw_square, raw_pair, own, paired, pairs, raw}
 use Rattle.model.specs.Points.{Vector, monomial, value_at}

@@ -8,11 +8,13 @@ use lib.IntN.{pos}
 use Rattle.whole.specs.Round.{scale}
 use Rattle.whole.specs.Tab.{tab, get_d_tab}
 use Rattle.rational.specs.Rational.{ℚ, ◌+ℚ◌, ◌*ℚ◌, ◌-ℚ◌, ι, ◌over◌, 1ℚ}
-use Rattle.rational.specs.Ring.{ring, +ℚ-assoc, *ℚ-assoc, *ℚ-one, one-*ℚ, minus_is}
-use Rattle.rational.specs.Pinned.{ι-+, ι-*, over-*}
-use Rattle.rational.specs.Order.{gap_eq}
-use Rattle.rational.specs.Bounds.{Within, within-+}
-use Rattle.rational.specs.Near.{Near, near_as}
+use Rattle.rational.proofs.Ring.{ring, +ℚ-assoc, *ℚ-assoc, *ℚ-one, one-*ℚ, minus_is}
+use Rattle.rational.proofs.Pinned.{ι-+, ι-*, over-*}
+use Rattle.rational.proofs.Order.{gap_eq}
+use Rattle.rational.specs.Bounds.{Within}
+use Rattle.rational.proofs.Bounds.{within-+}
+use Rattle.rational.specs.Near.{Near}
+use Rattle.rational.proofs.Near.{near_as}
 use Rattle.rational.specs.Sum.{All}
 use Rattle.model.specs.Set.{Zonotope, at, radius, independent_size}
 use Rattle.model.specs.Step.{Step, raw, raw_linear, remainder}

@@ -9,8 +9,9 @@ use Rattle.whole.specs.Round.{round, exact, inexact}
 use Rattle.whole.specs.Sum.{sum_by, upto_by}
 use Rattle.whole.specs.Tab.{tab, any, all}
 use Rattle.rational.specs.Rational.{ℚ, ◌+ℚ◌, ◌-ℚ◌, ◌*ℚ◌, ι, ◌over◌, ½, 0ℚ, 1ℚ}
-use Rattle.rational.specs.Ring.{ring, +ℚ-zero, *ℚ-one}
-use Rattle.rational.specs.Bounds.{Within, within-ι, within-scaled}
+use Rattle.rational.proofs.Ring.{ring, +ℚ-zero, *ℚ-one}
+use Rattle.rational.specs.Bounds.{Within}
+use Rattle.rational.proofs.Bounds.{within-ι, within-scaled}
 use Rattle.rational.specs.Near.{Near}
 use Rattle.rational.specs.Power.{power}
 use Rattle.rational.specs.Sum.{sum}

@@ -12,7 +12,7 @@ use Rattle.whole.specs.Sum.{sum_by, upto_by}
 use Rattle.whole.specs.Tab.{tab, any, all}
 use Rattle.rational.specs.Power.{even}
 use Rattle.model.specs.Limits.{first_fresh}
-use Rattle.model.specs.Set.{Zonotope, term_sizes, generator_sizes, span, longer, radius_of, blank, given_only}
+use Rattle.model.specs.Set.{term_sizes, generator_sizes, span, longer, radius_of, blank, given_only}
 use Rattle.model.specs.Valid.{order, rises, bad_range, bad_order, is_too_wide}
 use Rattle.model.specs.Finish.{insert, collect_into, those, shift, growth, fold_vector, fold_all, size, smallest, fold_smallest}
 use Rattle.model.specs.Finish.{fold_times, keep_at, collect_terms, drop_zero_terms, drop_zero_generators, fold_high, fold_terms}

@@ -14,9 +14,10 @@ use Rattle.whole.specs.Half.{half, half_size}
 use Rattle.whole.specs.Sum.{sum_by, upto_by}
 use Rattle.whole.specs.Tab.{tab, any, all}
 use Rattle.rational.specs.Rational.{ℚ, ◌+ℚ◌, ◌*ℚ◌, neg_ℚ, ι, 0ℚ, 1ℚ, ◌≤ℚ◌}
-use Rattle.rational.specs.Ring.{+ℚ-zero, zero-+ℚ, *ℚ-one, *ℚ-neg_ℚ}
-use Rattle.rational.specs.Pinned.{ι-+, ι-*, ι-neg, ι-≤}
-use Rattle.rational.specs.Bounds.{Within, within-one, within-neg}
+use Rattle.rational.proofs.Ring.{+ℚ-zero, zero-+ℚ, *ℚ-one, *ℚ-neg_ℚ}
+use Rattle.rational.proofs.Pinned.{ι-+, ι-*, ι-neg, ι-≤}
+use Rattle.rational.specs.Bounds.{Within}
+use Rattle.rational.proofs.Bounds.{within-one, within-neg}
 use Rattle.rational.specs.Power.{power, even}
 use Rattle.rational.specs.Sum as Sum
 use Rattle.rational.specs.Sum.{sum}
@@ -32,7 +33,7 @@ use Rattle.model.specs.Operations.{box, low_end, high_end, low_along, safe}
 use Rattle.model.specs.Bytes.{number, word, long}
 use Rattle.model.specs.Body.{given_set, given_halfspaces}
 use Rattle.model.specs.Field.{ranged_step, meaning}
-use Rattle.model.specs.Run.{begin, refusal, tag, kind_of, first_of, misplaced, cut, causes, accepted, after, outcome}
+use Rattle.model.specs.Run.{begin, tag, kind_of, first_of, misplaced, cut, causes, accepted, after, outcome}
 use Rattle.model.specs.Run.{with_folds, fields, fields_within, run}
 use Rattle.model.specs.Points.{monomial, terms_at, generators_at, value_at}
 use Rattle.model.specs.Motion.{Picks, Allowed, move, follow}

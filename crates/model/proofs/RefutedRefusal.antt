@@ -12,7 +12,6 @@ use lib.ListN.{length, get_or, take, drop}
 use Rattle.whole.specs.Sum.{sum_by, upto_by}
 use Rattle.whole.specs.Tab.{tab, any, all}
 use Rattle.rational.specs.Power.{even}
-use Rattle.rational.specs.Sum as Sum
 use Rattle.model.specs.Set.{term_sizes, generator_sizes, span, radius_of}
 use Rattle.model.specs.Valid.{order, rises, bad_range, bad_order, is_too_wide}
 use Rattle.model.specs.Finish.{folds}

@@ -4,10 +4,12 @@ use Prim.Native.Nat.{ℕ, ◌+◌, ◌*◌, ◌<◌}
 use lib.IntN.{pos, nat_abs, ◌+ℤ◌, ◌*ℤ◌}
 use Rattle.whole.specs.Sum.{upto_ℕ}
 use Rattle.rational.specs.Rational.{◌+ℚ◌, ◌*ℚ◌, ι}
-use Rattle.rational.specs.Ring.{ring, *ℚ-comm}
-use Rattle.rational.specs.Pinned.{ι-+, ι-*}
-use Rattle.rational.specs.Bounds.{Within, within-+, within-*, within-ι}
-use Rattle.rational.specs.Sum.{sum, sum-+, sum_cong, sum-within}
+use Rattle.rational.proofs.Ring.{ring, *ℚ-comm}
+use Rattle.rational.proofs.Pinned.{ι-+, ι-*}
+use Rattle.rational.specs.Bounds.{Within}
+use Rattle.rational.proofs.Bounds.{within-+, within-*, within-ι}
+use Rattle.rational.specs.Sum.{sum}
+use Rattle.rational.proofs.Sum.{sum-+, sum_cong, sum-within}
 use Rattle.model.specs.Set.{Zonotope, at, radius, term_sizes, independent_size}
 use Rattle.model.specs.Step.{Step, linear_at, quadratic_at, slope, remainder}
 use Rattle.model.specs.Points.{Vector}

@@ -1,6 +1,6 @@
 -- The second stage of a step, of any image in raw units: where 16,777,216·x is a point of it, x is a point of the image rounded.
 use mathlib.Core.Path.{◌≡◌, refl, sym, ◌∙◌, ap, ap₂, subst}
-use mathlib.Core.List.{List, ◌++◌, map, map_append}
+use mathlib.Core.List.{List, ◌++◌, map, map-append}
 use Prim.Native.Nat.{ℕ, ◌+◌, ◌*◌, ◌≤◌, ◌<◌}
 use native.Mathlib.Omega.{arith}
 use lib.ListN.{length, get_or, length-map, get_or-map}
@@ -11,13 +11,16 @@ use Rattle.whole.specs.Sum.{sum_ℕ, monoid_ℕ}
 use Rattle.whole.specs.Sum as W
 use Rattle.whole.specs.Tab.{get_d_tab}
 use Rattle.rational.specs.Rational.{ℚ, ◌+ℚ◌, ◌*ℚ◌, ι, ◌over◌, 1ℚ, NonNeg, ◌≤ℚ◌}
-use Rattle.rational.specs.Ring.{*ℚ-assoc, *ℚ-comm, one-*ℚ, *ℚ-+ℚ, +ℚ-*ℚ}
-use Rattle.rational.specs.Pinned.{ι-+, ι-*, over-*}
-use Rattle.rational.specs.Sign.{NonNeg-over}
-use Rattle.rational.specs.Order.{≤ℚ-refl, ι-mono}
-use Rattle.rational.specs.Bounds.{Within, within-*, within_mono, within-ι, within-scaled, within-NonNeg}
-use Rattle.rational.specs.Near.{Near, near-+, near_trans, near_mono, near_as}
-use Rattle.rational.specs.Sum.{sum-*, sum_cong, sum_near, All, All-imp, All-++}
+use Rattle.rational.proofs.Ring.{*ℚ-assoc, *ℚ-comm, one-*ℚ, *ℚ-+ℚ, +ℚ-*ℚ}
+use Rattle.rational.proofs.Pinned.{ι-+, ι-*, over-*}
+use Rattle.rational.proofs.Sign.{NonNeg-over}
+use Rattle.rational.proofs.Order.{≤ℚ-refl, ι-mono}
+use Rattle.rational.specs.Bounds.{Within}
+use Rattle.rational.proofs.Bounds.{within-*, within_mono, within-ι, within-scaled, within-NonNeg}
+use Rattle.rational.specs.Near.{Near}
+use Rattle.rational.proofs.Near.{near-+, near_trans, near_mono, near_as}
+use Rattle.rational.specs.Sum.{All}
+use Rattle.rational.proofs.Sum.{sum-*, sum_cong, sum_near, All-imp, All-++}
 use Rattle.model.specs.Set.{at, radius, radius_of}
 use Rattle.model.specs.Step.{RawImage, inexact_at, carried_at, rounded_at, rounded}
 use Rattle.model.specs.Points.{Vector, value_at, Point, InRange}
@@ -73,7 +76,7 @@ module _ (r : RawImage) (α : Vector) (bs : List ℚ) where
   unfolding rounded
   rounded-parts =
       ap₂ ◌++◌ (term_parts-map (map round) α r.identifiers r.terms) (generator_parts-map (map round) r.generators bs)
-      ∙ sym (map_append (through (map round)) (term_parts α r.identifiers r.terms) (generator_parts r.generators bs))
+      ∙ sym (map-append (through (map round)) (term_parts α r.identifiers r.terms) (generator_parts r.generators bs))
 
   inexact-parts : (i : ℕ) → length bs ≡ length r.generators
       → inexact (at r.centre i) + inexact_parts (parts_of (in_raw_units r) α bs) i ≡ inexact_at r i

@@ -2,19 +2,21 @@
 use mathlib.Core.Path.{◌≡◌, sym, ◌∙◌, ap, ap₂}
 use mathlib.Core.List.{List, [], ◌∷◌}
 use mathlib.Core.Bool.{Bool, true, false, ◌||◌}
-use Prim.Native.Nat.{ℕ, ◌*◌, ◌<◌}
+use Prim.Native.Nat.{ℕ, ◌*◌}
 use lib.Dec.{T}
 use lib.IntN.{ℤ, pos, nat_abs, ◌*ℤ◌}
 use lib.Signed.{lt_z, lt_z_yes}
 use Rattle.whole.specs.Sum.{upto_ℕ}
 use Rattle.whole.specs.Tab.{any}
-use Rattle.rational.specs.Rational.{ℚ, ◌+ℚ◌, ◌*ℚ◌, ι, ◌≤ℚ◌, ◌<ℚ◌}
-use Rattle.rational.specs.Ring.{*ℚ-+ℚ, *ℚ-comm, ring}
-use Rattle.rational.specs.Pinned.{ι-*, ι-<}
-use Rattle.rational.specs.Order.{<ℚ-≤ℚ-trans}
-use Rattle.rational.specs.Bounds.{within-*, within-ι}
-use Rattle.rational.specs.Near.{Near, near_as}
-use Rattle.rational.specs.Sum.{sum, sum-+, sum-*, sum_near, sum-swap, sum_cong, more}
+use Rattle.rational.specs.Rational.{ℚ, ◌+ℚ◌, ◌*ℚ◌, ι, ◌≤ℚ◌}
+use Rattle.rational.proofs.Ring.{*ℚ-+ℚ, *ℚ-comm, ring}
+use Rattle.rational.proofs.Pinned.{ι-*, ι-<}
+use Rattle.rational.proofs.Order.{<ℚ-≤ℚ-trans}
+use Rattle.rational.proofs.Bounds.{within-*, within-ι}
+use Rattle.rational.specs.Near.{Near}
+use Rattle.rational.proofs.Near.{near_as}
+use Rattle.rational.specs.Sum.{sum, more}
+use Rattle.rational.proofs.Sum.{sum-+, sum-*, sum_near, sum-swap, sum_cong}
 use Rattle.model.specs.Set.{Zonotope, at, radius}
 use Rattle.model.specs.Step.{dot}
 use Rattle.model.specs.Operations.{Halfspace, low_along, safe}

@@ -8,7 +8,8 @@ use lib.Dec.{ltb, eqb}
 use lib.ListN.{length}
 use borrow.Author.Tests.{ltb-true, ltb-false, lt-ltb, le-ltb, eqb-false, ne_eqb, not-false}
 use Rattle.whole.specs.Tab.{tab, any, all}
-use Rattle.rational.specs.Sum.{All, All-imp}
+use Rattle.rational.specs.Sum.{All}
+use Rattle.rational.proofs.Sum.{All-imp}
 use Rattle.model.specs.Limits.{max_dimension, max_factors, max_terms, max_generators, max_exponent}
 use Rattle.model.specs.Set.{Term, Zonotope}
 use Rattle.model.specs.Valid.{Order, less, equal, greater, order, is_less, rises, zeros, factorless, occurs}

@@ -4,11 +4,12 @@ use Prim.Native.Nat.{ℕ, zero, suc, ◌+◌, ◌<◌, ◌≤◌}
 use native.Mathlib.Omega.{arith}
 use lib.IntN.{pos}
 use Rattle.rational.specs.Rational.{ℚ, ◌+ℚ◌, ◌*ℚ◌, ◌-ℚ◌, ι, ◌over◌, 0ℚ, 1ℚ, ◌≤ℚ◌}
-use Rattle.rational.specs.Ring.{ring, +ℚ-zero, *ℚ-one, *ℚ-+ℚ, zero-*ℚ, neg_ℚ-is, minus_is}
-use Rattle.rational.specs.Pinned.{ι-+, over-*, *ℚ-cancel}
-use Rattle.rational.specs.Sign.{NonNeg-over}
-use Rattle.rational.specs.Order.{≤ℚ-refl, ≤ℚ-antisym, gap_eq}
-use Rattle.rational.specs.Bounds.{Within, within-*, within-NonNeg}
+use Rattle.rational.proofs.Ring.{ring, +ℚ-zero, *ℚ-one, *ℚ-+ℚ, zero-*ℚ, neg_ℚ-is, minus_is}
+use Rattle.rational.proofs.Pinned.{ι-+, over-*, *ℚ-cancel}
+use Rattle.rational.proofs.Sign.{NonNeg-over}
+use Rattle.rational.proofs.Order.{≤ℚ-refl, ≤ℚ-antisym, gap_eq}
+use Rattle.rational.specs.Bounds.{Within}
+use Rattle.rational.proofs.Bounds.{within-*, within-NonNeg}
 use Rattle.rational.specs.Near.{Near}
 
 -- ---- the share k of a whole t

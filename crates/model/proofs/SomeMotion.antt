@@ -4,10 +4,12 @@ use Prim.Native.Nat.{ℕ}
 use lib.ListN.{get_or}
 use lib.IntN.{pos}
 use Rattle.rational.specs.Rational.{ℚ, ι, 0ℚ}
-use Rattle.rational.specs.Sign.{NonNeg-ι}
-use Rattle.rational.specs.Order.{NonNeg-≤}
-use Rattle.rational.specs.Bounds.{Within, within-NonNeg}
-use Rattle.rational.specs.Near.{Near, near_refl, near_mono}
+use Rattle.rational.proofs.Sign.{NonNeg-ι}
+use Rattle.rational.proofs.Order.{NonNeg-≤}
+use Rattle.rational.specs.Bounds.{Within}
+use Rattle.rational.proofs.Bounds.{within-NonNeg}
+use Rattle.rational.specs.Near.{Near}
+use Rattle.rational.proofs.Near.{near_refl, near_mono}
 use Rattle.model.specs.Step.{linear_at, quadratic_at}
 use Rattle.model.specs.Body.{given_step}
 use Rattle.model.specs.Run.{body}

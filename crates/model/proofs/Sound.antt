@@ -13,7 +13,8 @@ use lib.Dec.{ltb}
 use lib.ListN.{length, get_or, get_or-eq_default}
 use Rattle.whole.specs.Tab.{length-tab, get_d_tab}
 use Rattle.rational.specs.Sum as Sum
-use Rattle.rational.specs.Sum.{All, All-imp}
+use Rattle.rational.specs.Sum.{All}
+use Rattle.rational.proofs.Sum.{All-imp}
 use Rattle.model.specs.Limits.{max_dimension, max_factors, max_span, max_total, record_identifiers, first_fresh, last_fresh, last_field}
 use Rattle.model.specs.Set.{Zonotope, span}
 use Rattle.model.specs.Valid.{is_too_wide}

@@ -1,11 +1,12 @@
 -- How far the parts of a set's points, and the points themselves, are from 0.
 use mathlib.Core.Path.{◌≡◌, refl, sym, ◌∙◌, ap, ap₂, subst}
 use mathlib.Core.List.{List}
-use Prim.Native.Nat.{ℕ, ◌+◌, ◌<◌}
+use Prim.Native.Nat.{ℕ, ◌<◌}
 use lib.ListN.{length}
 use lib.IntN.{pos, nat_abs}
 use Rattle.rational.specs.Rational.{ℚ, ◌+ℚ◌, ι, 1ℚ}
-use Rattle.rational.specs.Bounds.{Within, within-+, within-ι}
+use Rattle.rational.specs.Bounds.{Within}
+use Rattle.rational.proofs.Bounds.{within-+, within-ι}
 use Rattle.rational.specs.Sum.{All}
 use Rattle.model.specs.Set.{Zonotope, at, radius, term_sizes, generator_sizes, span}
 use Rattle.model.specs.Points.{Vector, value_at, Point, InRange}

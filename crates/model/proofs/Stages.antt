@@ -6,7 +6,8 @@ use Prim.Native.Nat.{ℕ, ◌+◌, ◌≤◌}
 use lib.ListN.{length, length-map}
 use lib.IntN.{ℤ, ◌+ℤ◌}
 use borrow.Author.Tests.{not-true}
-use Rattle.rational.specs.Sum.{All, All-imp}
+use Rattle.rational.specs.Sum.{All}
+use Rattle.rational.proofs.Sum.{All-imp}
 use Rattle.model.specs.Set.{Term, Zonotope, with_folded}
 use Rattle.model.specs.Valid.{factorless, zeros}
 use Rattle.model.specs.Finish.{Core, plus_term, shift, growth, fold_vector, fold_term, fold_generator}

@@ -11,7 +11,8 @@ use borrow.Author.Tests.{eqb-false, ne_eqb}
 use Rattle.whole.specs.Round.{round, exact, inexact}
 use Rattle.whole.specs.Sum.{sum_by, sum_ℕ}
 use Rattle.whole.specs.Tab.{all, length-tab}
-use Rattle.rational.specs.Sum.{All, none, more, All-imp, All-map, All-++}
+use Rattle.rational.specs.Sum.{All, none, more}
+use Rattle.rational.proofs.Sum.{All-imp, All-map, All-++}
 use Rattle.model.specs.Set.{Term, Zonotope, at, longer, plus_ℕ}
 use Rattle.model.specs.Valid.{factorless}
 use Rattle.model.specs.Step.{Step, RawImage, own, paired, pairs, raw_centre, raw_linear, raw, inexact_at, rounded}

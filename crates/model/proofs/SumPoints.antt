@@ -9,11 +9,14 @@ use lib.Dec.{ltb}
 use lib.ListN.{length, get_or, length-append}
 use lib.IntN.{ℤ, pos}
 use Rattle.rational.specs.Rational.{ℚ, ◌+ℚ◌, ◌*ℚ◌, ι}
-use Rattle.rational.specs.Ring.{ring, +ℚ-assoc}
-use Rattle.rational.specs.Pinned.{ι-+}
-use Rattle.rational.specs.Bounds.{Within, within-+}
-use Rattle.rational.specs.Near.{Near, near-+, near_as}
-use Rattle.rational.specs.Sum.{sum-++, sum-map, sum_cong, All, All-++, All-imp}
+use Rattle.rational.proofs.Ring.{ring, +ℚ-assoc}
+use Rattle.rational.proofs.Pinned.{ι-+}
+use Rattle.rational.specs.Bounds.{Within}
+use Rattle.rational.proofs.Bounds.{within-+}
+use Rattle.rational.specs.Near.{Near}
+use Rattle.rational.proofs.Near.{near-+, near_as}
+use Rattle.rational.specs.Sum.{All}
+use Rattle.rational.proofs.Sum.{sum-++, sum-map, sum_cong, All-++, All-imp}
 use Rattle.model.specs.Set.{Term, Zonotope, at, radius}
 use Rattle.model.specs.Valid.{rises}
 use Rattle.model.specs.Limits.{max_terms, max_generators}

@@ -10,7 +10,8 @@ use lib.ListN.{length}
 use lib.IntN.{◌+ℤ◌}
 use borrow.Author.Tests.{lt-ltb, eq-eqb, ne_eqb}
 use Rattle.whole.specs.Tab.{tab, all, length-tab}
-use Rattle.rational.specs.Sum.{All, All-imp, All-map, All-++}
+use Rattle.rational.specs.Sum.{All}
+use Rattle.rational.proofs.Sum.{All-imp, All-map, All-++}
 use Rattle.model.specs.Set.{Zonotope}
 use Rattle.model.specs.Valid.{factorless}
 use Rattle.model.specs.Operations.{union, align, aligned, joined, renumbered, disturb}

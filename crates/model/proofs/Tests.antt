@@ -9,6 +9,7 @@ use borrow.Author.Tests.{eq-eqb, ne_eqb, eqb-false, lt-ltb}
 use lib.Dec.{ltb, eqb}
 use Rattle.whole.specs.Tab.{tab, any, all}
 use Rattle.rational.specs.Sum as Sum
+use Rattle.rational.proofs.Sum as SumLaws
 use Rattle.rational.specs.Sum.{All, more}
 use Rattle.model.specs.Valid.{rises}
 use Rattle.model.specs.Field.{all_zero}
@@ -91,7 +92,7 @@ module _ {A : Type 0} (before : A → A → Bool) {Before : A → A → Type 0} 
       onto (tells a b h.0) (rises-true tells trans (b ∷ l) h.1)
     where
       onto : Before a b → Rising Before (b ∷ l) → Rising Before (a ∷ (b ∷ l))
-      onto q (first t r) = first (more q (Sum.All-imp (λ c s. trans a b c q s) t)) (first t r)
+      onto q (first t r) = first (more q (SumLaws.All-imp (λ c s. trans a b c q s) t)) (first t r)
 
   pub true-rises : {l : List A} → ((a b : A) → Before a b → before a b ≡ true) → Rising Before l → rises before l ≡ true
   unfolding rises
@@ -112,7 +113,7 @@ no_cause (c ∷ cs) e = go c.holds refl e (no_cause cs) where
 -- a number that no cause has, none has that holds
 pub not_there : (n : ℕ) (cs : List Cause) → any (λ c. eqb c.number n) cs ≡ false
     → any (λ c. eqb c.number n && c.holds) cs ≡ false
-not_there n cs e = false-any _ (Sum.All-imp (λ c h. rw h) (any_false _ cs e))
+not_there n cs e = false-any _ (SumLaws.All-imp (λ c h. rw h) (any_false _ cs e))
 
 -- a number that no cause has that holds isn't the answer
 pub not-answered : (n : ℕ) (cs : List Cause) → any (λ c. eqb c.number n && c.holds) cs ≡ false → first_of cs ≡ some n → ⊥

@@ -12,7 +12,8 @@ use lib.ListN.{length, length-append}
 use lib.IntN.{ℤ, pos, negsuc, neg_ℤ}
 use Rattle.whole.specs.Tab.{all}
 use Rattle.rational.specs.Sum as Sum
-use Rattle.rational.specs.Sum.{All, All-imp}
+use Rattle.rational.specs.Sum.{All}
+use Rattle.rational.proofs.Sum.{All-imp}
 use Rattle.model.specs.Text.{ascii, decimal, signed_decimal}
 use Rattle.model.proofs.Numerals.{Digit, read_on, by_digits, reads_back, all_digits}
 use Rattle.model.specs.Reading.{is_digit, is_natural, value, natural, whole, each}

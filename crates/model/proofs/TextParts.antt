@@ -7,7 +7,8 @@ use native.Mathlib.Omega.{arith}
 use borrow.Author.Tests.{eq-eqb}
 use lib.Dec.{eqb}
 use lib.ListN.{length, get_or}
-use Rattle.rational.specs.Sum.{All, none, more, All-++}
+use Rattle.rational.specs.Sum.{All, none, more}
+use Rattle.rational.proofs.Sum.{All-++}
 use Rattle.model.specs.Text as Text
 use Rattle.model.specs.Text.{ascii, following}
 use Rattle.model.specs.Reading.{Line, line_end, space, onto, parts, line, lines_of, lines, line_at, line_ends}

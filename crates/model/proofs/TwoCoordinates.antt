@@ -11,7 +11,7 @@ use Rattle.whole.specs.Round.{round, exact, inexact}
 use Rattle.whole.specs.Sum.{sum_by, upto_by}
 use Rattle.whole.specs.Tab.{tab, any, all}
 use Rattle.rational.specs.Power.{even}
-use Rattle.model.specs.Set.{Term, Zonotope, term_sizes, generator_sizes, span, longer, radius_of}
+use Rattle.model.specs.Set.{Term, term_sizes, generator_sizes, span, longer, radius_of}
 use Rattle.model.specs.Valid.{order, rises, bad_range, bad_order, is_too_wide}
 use Rattle.model.specs.Finish.{insert, collect_into, those, shift, growth, fold_vector, fold_all, size, smallest, fold_smallest, folds}
 use Rattle.model.specs.Finish.{fold_times, keep_at, collect_terms, drop_zero_terms, drop_zero_generators, fold_high, fold_terms}

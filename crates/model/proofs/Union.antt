@@ -2,7 +2,8 @@
 use mathlib.Core.List.{List, [], ◌∷◌}
 use Prim.Native.Nat.{ℕ, ◌<◌}
 use native.Mathlib.Omega.{arith}
-use Rattle.rational.specs.Sum.{All, none, more, All-imp}
+use Rattle.rational.specs.Sum.{All, none, more}
+use Rattle.rational.proofs.Sum.{All-imp}
 use Rattle.model.specs.Operations.{insert_identifier, union}
 use Rattle.model.proofs.Lists.{Rising, nothing, first}
 use Rattle.model.proofs.Aligned.{by_place}

@@ -9,7 +9,8 @@ use native.Mathlib.Omega.{arith}
 use lib.Dec.{T, ltb, eqb}
 use lib.ListN.{length, get_or}
 use Rattle.whole.specs.Tab.{all}
-use Rattle.rational.specs.Sum.{All, All-imp}
+use Rattle.rational.specs.Sum.{All}
+use Rattle.rational.proofs.Sum.{All-imp}
 use Rattle.model.specs.Set.{Term}
 use Rattle.model.specs.Valid.{less, greater, order, factorless, occurs}
 use Rattle.model.specs.Finish.{keep_at}

@@ -9,9 +9,10 @@ use lib.ListN.{get_or}
 use mir.Facts.{or_no}
 use Rattle.whole.specs.Tab.{any}
 use Rattle.rational.specs.Rational.{◌*ℚ◌, ι, 1ℚ}
-use Rattle.rational.specs.Ring.{one-*ℚ}
+use Rattle.rational.proofs.Ring.{one-*ℚ}
 use Rattle.rational.specs.Power.{power}
-use Rattle.rational.specs.Sum.{All, none, more, All-imp, sum-map, sum_cong_all}
+use Rattle.rational.specs.Sum.{All, none, more}
+use Rattle.rational.proofs.Sum.{All-imp, sum-map, sum_cong_all}
 use Rattle.model.specs.Set.{Term, Zonotope, at}
 use Rattle.model.specs.Valid.{occurs}
 use Rattle.model.specs.Finish.{keep_at, keep_exponents, drop_unused}

@@ -2,12 +2,13 @@
 use mathlib.Core.Path.{◌≡◌, refl, sym, ◌∙◌, ap, ap₂}
 use mathlib.Core.List.{List, [], ◌∷◌, map}
 use mathlib.Core.Logic.{◌↔◌}
-use Prim.Native.Nat.{ℕ, ◌+◌, ◌<◌}
+use Prim.Native.Nat.{ℕ, ◌+◌}
 use lib.ListN.{length, get_or}
 use Rattle.whole.specs.Tab.{tab, tab_cong, map-tab, tab_get_d}
 use Rattle.rational.specs.Rational.{ℚ, ◌*ℚ◌, ι, 1ℚ}
 use Rattle.rational.specs.Power.{power}
-use Rattle.rational.specs.Sum.{sum_cong, All, none, more}
+use Rattle.rational.specs.Sum.{All, none, more}
+use Rattle.rational.proofs.Sum.{sum_cong}
 use Rattle.model.specs.Set.{Term, Zonotope, at}
 use Rattle.model.specs.Operations.{renumbered}
 use Rattle.model.specs.Points.{Vector, monomial, terms_at, Point}

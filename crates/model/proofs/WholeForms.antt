@@ -1,14 +1,15 @@
 -- ι carries sums over places, and so linear and bilinear forms, from whole numbers over to ℚ.
 use mathlib.Core.Path.{◌≡◌, refl, sym, ◌∙◌, ap, ap₂, fun_ext}
-use mathlib.Core.List.{[], ◌∷◌, ◌++◌}
+use mathlib.Core.List.{[], ◌∷◌}
 use Prim.Native.Nat.{ℕ, zero, suc, ◌+◌, ◌*◌, ◌<◌}
 use lib.IntN.{ℤ, pos, ◌*ℤ◌}
 use Rattle.whole.specs.Sum.{upto_by, upto_ℕ, upto_ℤ}
 use Rattle.whole.specs.Tab.{tab, tab_end}
 use Rattle.rational.specs.Rational.{ℚ, ◌+ℚ◌, ◌*ℚ◌, ι, 0ℚ}
-use Rattle.rational.specs.Ring.{+ℚ-zero}
-use Rattle.rational.specs.Pinned.{ι-+, ι-*}
-use Rattle.rational.specs.Sum.{sum, sum-++, sum_cong, All}
+use Rattle.rational.proofs.Ring.{+ℚ-zero}
+use Rattle.rational.proofs.Pinned.{ι-+, ι-*}
+use Rattle.rational.specs.Sum.{sum, All}
+use Rattle.rational.proofs.Sum.{sum-++, sum_cong}
 use Rattle.model.specs.Step.{dot, bilinear}
 use Rattle.model.specs.Motion.{places}
 use Rattle.model.proofs.Tests.{all-tab}

@@ -9,10 +9,11 @@ use lib.Dec.{T}
 use lib.ListN.{length}
 use lib.IntN.{ℤ}
 use Rattle.rational.specs.Rational.{ℚ, ◌+ℚ◌, ◌*ℚ◌, ι, 0ℚ, 1ℚ}
-use Rattle.rational.specs.Ring.{zero-+ℚ}
-use Rattle.rational.specs.Order.{ι-mono}
-use Rattle.rational.specs.Bounds.{Within, within_mono, within-zero}
-use Rattle.rational.specs.Near.{near_as}
+use Rattle.rational.proofs.Ring.{zero-+ℚ}
+use Rattle.rational.proofs.Order.{ι-mono}
+use Rattle.rational.specs.Bounds.{Within}
+use Rattle.rational.proofs.Bounds.{within_mono, within-zero}
+use Rattle.rational.proofs.Near.{near_as}
 use Rattle.rational.specs.Sum.{All, none, more}
 use Rattle.model.specs.Set.{Zonotope, at}
 use Rattle.model.specs.Valid.{zeros}

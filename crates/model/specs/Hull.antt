@@ -1,6 +1,6 @@
 -- The hull with a second set (Propositions 14 and 15 of source document 001; equal identifiers stay one factor): every point between a point
 -- of the one set and a point of the other at equal factor values, by a fresh factor that blends them.
-use Rattle.std.specs.Prelude.{List, [], ◌∷◌, ◌++◌, map, cond, ℕ, ◌+◌, ◌*◌, ltb, length, replicate, ℤ, pos, neg_ℤ, ◌*ℤ◌}
+use Rattle.std.specs.Prelude.{List, [], ◌∷◌, ◌++◌, map, cond, ℕ, ◌*◌, ltb, length, replicate, ℤ, pos, neg_ℤ, ◌*ℤ◌}
 use Rattle.whole.specs.Round.{scale}
 use Rattle.whole.specs.Tab.{tab}
 use Rattle.model.specs.Set.{Term, Zonotope, independent_size, with}

@@ -1,6 +1,6 @@
 -- Single operations on records: which refusal a call gives, by the causes in their order. What it gives where none holds, and that a
 -- refusal gives the first set back as it came, the calls' contracts say.
-use Rattle.std.specs.Prelude.{List, [], ◌∷◌, ◌++◌, Bool, not, ◌||◌, ℕ, ◌*◌, ◌+◌, ltb, eqb, length, ℤ}
+use Rattle.std.specs.Prelude.{List, [], ◌∷◌, ◌++◌, Bool, not, ◌||◌, ℕ, ◌*◌, ltb, eqb, length, ℤ}
 use Rattle.std.proofs.Math.Option.{Option}
 use Rattle.whole.specs.Tab.{any}
 use Rattle.model.specs.Limits.{record_identifiers, first_fresh, last_fresh, max_terms, max_generators, max_halfspaces, max_entry}

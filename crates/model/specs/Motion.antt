@@ -1,5 +1,5 @@
 -- Motions, and what is claimed of them: document 01's 'Motions' and demand 3. The theorem is `enclosed`, in proofs/Enclosed.antt.
-use Rattle.std.specs.Prelude.{◌≡◌, List, [], ◌∷◌, map, true, cond, ℕ, suc, ◌+◌, ◌-◌, ◌<◌, T, ltb, eqb, length, get_or, pos}
+use Rattle.std.specs.Prelude.{◌≡◌, List, [], ◌∷◌, map, true, cond, ℕ, suc, ◌+◌, ◌<◌, T, ltb, eqb, length, get_or, pos}
 use Rattle.rational.specs.Rational.{ℚ, ◌*ℚ◌, ι, 0ℚ, 1ℚ, ◌≤ℚ◌}
 use Rattle.rational.specs.Bounds.{Within}
 use Rattle.rational.specs.Sum.{sum, All}

@@ -39,6 +39,8 @@ fraction z d = record { up = above z; down = below z; den = denominator d; posit
 
 pub product_positive : (m n : ℕ) → 0 < m → 0 < n → 0 < m * n
 product_positive (suc m) (suc n) h k = omega arith
+product_positive zero n h k = elim h [ ]
+product_positive (suc m) zero h k = elim k [ ]
 
 -- x + y, over the product of the denominators.
 unfoldable pub add : Fraction → Fraction → Fraction

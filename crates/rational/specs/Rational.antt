@@ -1,5 +1,5 @@
 -- What ℚ is: fractions with a positive denominator, equal when the cross products are, with their sum, product, negative and order.
--- Definitions only: `Pinned` has the theorems that pin them down. `Ring`, `Sign` and `Pinned` open them; all else goes by the laws.
+-- Definitions only: `Pinned` (proofs/) has the theorems that pin them down. `Ring`, `Sign` and `Pinned` open them; all else goes by the laws.
 use mathlib.Core.Quot.{Quot, mk, sound, lift, Quot-set, ind}
 use Rattle.std.specs.Prelude.{Bool, ℕ, T, ℤ, pos}
 use Rattle.std.proofs.Math.Bool.{Bool-set}

@@ -1,1 +1,3 @@
+#![tactic(auto)]
+
 // The rational numbers: definitions and laws in specs/. No code.

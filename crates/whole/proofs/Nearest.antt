@@ -12,7 +12,8 @@ use mir.Facts.{to_z-of_z}
 use Rattle.whole.proofs.Stored.{stored}
 use Rattle.whole.specs.AsNaturals.{as_ℕ}
 use Rattle.whole.specs.Floor.{floor, floor_le, floor_lt}
-use Rattle.whole.specs.Round.{scale, round, neighbours, round_near, round_unique}
+use Rattle.whole.specs.Round.{scale, round, neighbours, round_near}
+use Rattle.whole.proofs.Unique.{round_unique}
 
 +ℤ-zero : (b : ℤ) → b +ℤ pos 0 ≡ b
 +ℤ-zero b = simp as_ℕ (omega arith)

@@ -45,10 +45,10 @@ pub ruleset signed = (fits_widen, fits_floor, fits_rem, fits_quot, fits_product)
 
 -- ---- read back
 pub read32 : (z : ℤ) → mag z < 2 ^ 31 → to_z w32 (of_z w32 z) ≡ z
-read32 z h = to_z-of_z (record { sfits = h })
+read32 z h = to_z-of_z {w = w32} {z = z} (record { sfits = h })
 
 pub read64 : (z : ℤ) → mag z < 2 ^ 63 → to_z w64 (of_z w64 z) ≡ z
-read64 z h = to_z-of_z (record { sfits = h })
+read64 z h = to_z-of_z {w = w64} {z = z} (record { sfits = h })
 
 -- a call's result: `got64 c.f.ensures c.f.ok`
 pub got32 : {r z : ℤ} → r ≡ z → mag r < 2 ^ 31 → to_z w32 (of_z w32 r) ≡ z

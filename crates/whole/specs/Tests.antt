@@ -3,7 +3,7 @@ use Rattle.std.specs.Prelude.{◌≡◌, Bool, ◌&&◌, eqb, length, get_or}
 use Rattle.std.proofs.Math.Path.{refl, ap, ap₂}
 use Rattle.std.proofs.Common.{sym, ◌∙◌, true≢false, le_of_suc-le-suc, arith, eq-eqb, ne_eqb}
 use mathlib.Core.List.{List, [], ◌∷◌}
-use Rattle.std.proofs.Math.Bool.{true, false, not, ◌||◌, or_true}
+use Rattle.std.proofs.Math.Bool.{true, false, not, ◌||◌, or-true}
 use Prim.Native.Nat.{ℕ, zero, suc, ◌<◌, ◌≤◌}
 use Rattle.whole.specs.Tab.{tab, any, all, tab_get_d}
 
@@ -36,7 +36,7 @@ module _ {A : Type 0} (p : A → Bool) where
   unfolding tab any
   any_found zero f k h e = absurd (omega arith)
   any_found (suc n) f zero h e = ap (◌|| any p (tab n (λ i. f (suc i)))) e
-  any_found (suc n) f (suc k) h e = ap (p (f 0) ||◌) (any_found n (λ i. f (suc i)) k (le_of_suc-le-suc h) e) ∙ or_true (p (f 0))
+  any_found (suc n) f (suc k) h e = ap (p (f 0) ||◌) (any_found n (λ i. f (suc i)) k (le_of_suc-le-suc h) e) ∙ or-true (p (f 0))
 
   pub any_none : (n : ℕ) (f : ℕ → A) → ((k : ℕ) → k < n → p (f k) ≡ false) → any p (tab n f) ≡ false
   unfolding tab any

@@ -1,5 +1,7 @@
 // Whole-number arithmetic: leaf functions of a few operations, each with a contract in plain ℤ or ℕ.
 // A function that could leave 64 bits asks, in its `requires`, that the result fits.
+#![tactic(auto)]
+
 ghost use Rattle.std.specs.Prelude.{◌≡◌, ◌+◌, ◌*◌, ◌%◌, ◌^◌, ◌≤◌, ◌<◌, pos, nat_abs, ◌+ℤ◌, ◌-ℤ◌, ◌*ℤ◌};
 ghost use Rattle.std.specs.Int.Signed.{lt_z};
 ghost use Rattle.std.specs.Int.{w64};

@@ -6,7 +6,8 @@ use borrow.Author.Tests.{eq-eqb}
 use Rattle.whole.specs.Tab.{any}
 use Rattle.rational.specs.Sum as Sum
 use Rattle.rational.specs.Rational.{ℚ}
-use Rattle.rational.specs.Sum.{All-imp, more}
+use Rattle.rational.specs.Sum.{more}
+use Rattle.rational.proofs.Sum.{All-imp}
 use Rattle.model.specs.Limits.{standard_weights}
 use Rattle.model.specs.Step.{rounded}
 use Rattle.model.specs.Hull as Hull

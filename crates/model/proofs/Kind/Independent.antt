@@ -9,7 +9,8 @@ use Rattle.whole.specs.Tab.{any}
 use Rattle.rational.specs.Sum as Sum
 use Rattle.rational.specs.Rational.{ℚ, 1ℚ, ◌+ℚ◌}
 use Rattle.rational.specs.Bounds.{Within}
-use Rattle.rational.specs.Sum.{All, All-imp, All-map, more}
+use Rattle.rational.specs.Sum.{All, more}
+use Rattle.rational.proofs.Sum.{All-imp, All-map}
 use Rattle.model.specs.Limits.{standard_weights}
 use Rattle.model.specs.Operations.{joined, tied_sum, renumbered, independent_sum}
 use Rattle.model.specs.Body.{given_set}

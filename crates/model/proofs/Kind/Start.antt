@@ -5,7 +5,7 @@ use native.Mathlib.Nat.{add-zero}
 use native.Mathlib.Omega.{arith}
 use Rattle.whole.specs.Tab.{any}
 use Rattle.rational.specs.Sum as Sum
-use Rattle.rational.specs.Sum.{All-imp}
+use Rattle.rational.proofs.Sum.{All-imp}
 use Rattle.model.specs.Body.{given_set}
 use Rattle.model.specs.Points.{Vector}
 use Rattle.model.specs.Described.{within}

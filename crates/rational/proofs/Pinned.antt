@@ -10,7 +10,7 @@ use Rattle.whole.specs.Order.{≤ℤ-antisym}
 use Rattle.rational.specs.Fraction.{Fraction, above, below, denominator, add, mul, neg}
 use Rattle.rational.specs.Parts.{sub_parts, sum-parts, neg-parts, product-parts, order-parts}
 use Rattle.rational.specs.Rational.{ℚ, number, from, lifted, ◌+ℚ◌, ◌*ℚ◌, neg_ℚ, ◌over◌, ι, 1ℚ, nonneg, ◌≤ℚ◌, ◌<ℚ◌}
-use Rattle.rational.specs.Ring.{at₁, ring, *ℚ-assoc, *ℚ-comm, one-*ℚ}
+use Rattle.rational.proofs.Ring.{at₁, ring, *ℚ-assoc, *ℚ-comm, one-*ℚ}
 
 -- ---- the embedding
 

@@ -8,10 +8,10 @@ use mir.Facts.{to_z-of_z}
 use Rattle.whole.specs.Size.{abs_add, abs_mul}
 use Rattle.whole.specs.Fits.{fits_abs}
 use Rattle.whole.proofs.Stored.{stored}
-use Rattle.whole.proofs.multiply_add.Statement.{statement}
-use Rattle.whole.proofs.multiply_add.Tie as tie
+use Rattle.whole.proofs.multiply_add.Goals as goal
+use Rattle.whole.proofs.multiply_add.Goals.{Start}
 
-module _ (c : tie.Start) where
+module _ (c : Start) where
   abbrev s : ℤ
   s = c.args.sum
 
@@ -33,14 +33,11 @@ module _ (c : tie.Start) where
   sum : stored s +ℤ stored (stored a *ℤ stored b) ≡ s +ℤ a *ℤ b
   sum = ap₂ ◌+ℤ◌ (to_z-of_z c.ranges.sum) (ap stored product ∙ to_z-of_z product_fits)
 
-mul-result : tie.Need-overflow-mul-result
-mul-result c = subst (SFits w64) (sym (product c)) (product_fits c)
+pub overflow_mul-result : goal.overflow_mul-result
+overflow_mul-result c = subst (SFits w64) (sym (product c)) (product_fits c)
 
-add-result : tie.Need-overflow-add-result
-add-result c = subst (SFits w64) (sym (sum c)) (sum_fits c)
+pub overflow_add-result : goal.overflow_add-result
+overflow_add-result c = subst (SFits w64) (sym (sum c)) (sum_fits c)
 
-returns : tie.Need-returns
+pub returns : goal.returns
 returns c = ap stored (sum c) ∙ to_z-of_z (sum_fits c)
-
-pub multiply-add-spec : {M : Type 1} → statement M
-multiply-add-spec = tie.close (tie.spec mul-result add-result returns)

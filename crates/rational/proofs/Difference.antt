@@ -6,8 +6,8 @@ use Rattle.std.proofs.Math.IntN.{sub_ℕ}
 use Rattle.rational.specs.Fraction.{above, below}
 use Rattle.rational.specs.Parts.{sub_parts}
 use Rattle.rational.specs.Rational.{ℚ, ◌+ℚ◌, ◌*ℚ◌, neg_ℚ, ◌-ℚ◌, ι}
-use Rattle.rational.specs.Ring.{ring, +ℚ-assoc, +ℚ-zero, +ℚ-neg, zero-+ℚ, minus_is, neg_ℚ-+, neg_ℚ-neg_ℚ, *ℚ-neg_ℚ, neg-minus}
-use Rattle.rational.specs.Pinned.{ι-+, ι-*, ι-neg}
+use Rattle.rational.proofs.Ring.{ring, +ℚ-assoc, +ℚ-zero, +ℚ-neg, zero-+ℚ, minus_is, neg_ℚ-+, neg_ℚ-neg_ℚ, *ℚ-neg_ℚ, neg-minus}
+use Rattle.rational.proofs.Pinned.{ι-+, ι-*, ι-neg}
 
 -- The whole number a − b.
 pub diff : ℕ → ℕ → ℚ

@@ -6,7 +6,7 @@ use mathlib.Core.HLevel.{Π_prop}
 use Rattle.std.proofs.Math.Dec.{T_prop, nleb→lt}
 use Rattle.rational.specs.Fraction.{add, mul, neg}
 use Rattle.rational.specs.Rational.{ℚ, number, from, lifted, ◌+ℚ◌, ◌*ℚ◌, neg_ℚ, ◌over◌, ι, 0ℚ, ½, nonneg, NonNeg}
-use Rattle.rational.specs.Ring.{at₁, at₂, ℚ-set, *ℚ-neg_ℚ, neg_ℚ-*, neg_ℚ-neg_ℚ}
+use Rattle.rational.proofs.Ring.{at₁, at₂, ℚ-set, *ℚ-neg_ℚ, neg_ℚ-*, neg_ℚ-neg_ℚ}
 
 sum_nonneg : (a b : ℚ) → T (nonneg a) → T (nonneg b) → T (nonneg (a +ℚ b))
 unfolding ℚ number ◌+ℚ◌ lifted from add nonneg

@@ -4,9 +4,9 @@ use Rattle.std.specs.Prelude.{◌≡◌, ◌⊎◌, Bool, true, false, not, ℕ,
 use Rattle.std.proofs.Common.{sym, ◌∙◌, ap, subst, inl, inr, arith, T_not}
 use Rattle.std.proofs.Math.Dec.{not_T}
 use Rattle.rational.specs.Rational.{ℚ, ◌+ℚ◌, ◌*ℚ◌, neg_ℚ, ◌-ℚ◌, ι, 0ℚ, nonneg, NonNeg, ◌≤ℚ◌, ◌<ℚ◌}
-use Rattle.rational.specs.Ring.{ring, +ℚ-comm, +ℚ-zero, zero-+ℚ, +ℚ-assoc, neg-+ℚ, minus_plus, minus_is, neg_ℚ-+, neg-minus}
-use Rattle.rational.specs.Sign.{NonNeg-+, NonNeg-*, NonNeg-ι, negative-nonneg, zero_by_sign}
-use Rattle.rational.specs.Pinned.{ι-+}
+use Rattle.rational.proofs.Ring.{ring, +ℚ-comm, +ℚ-zero, zero-+ℚ, +ℚ-assoc, neg-+ℚ, minus_plus, minus_is, neg_ℚ-+, neg-minus}
+use Rattle.rational.proofs.Sign.{NonNeg-+, NonNeg-*, NonNeg-ι, negative-nonneg, zero_by_sign}
+use Rattle.rational.proofs.Pinned.{ι-+}
 
 -- ---- an order and its gap
 
