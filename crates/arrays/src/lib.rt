@@ -1,4 +1,5 @@
 // Tests and sums over the arrays of a record: the places that its counts use, those that they leave unused, and how far its numbers reach.
+#![tactic(auto)]
 
 pub mod span;
 pub mod spare;

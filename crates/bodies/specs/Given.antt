@@ -1,9 +1,8 @@
 -- The record of a body's set: it means that set, has no spare place, and its arrays have their lengths.
 use Rattle.std.specs.Prelude.{◌≡◌, refl, List, [], ◌∷◌, Bool, true, false, ◌||◌, ℕ, ◌<◌, ltb, eqb}
 use Rattle.std.proofs.Common.{sym, ap, ap₂, ◌∙◌, arith, lt-ltb, le-ltb}
-use Rattle.std.proofs.Math.Bool.{or_true, or_false}
+use Rattle.std.proofs.Math.Bool.{or-true, or-false}
 use Rattle.std.proofs.Math.Decide.{dec_lt}
-use Rattle.rational.specs.Sum.{All-imp}
 use Rattle.whole.specs.Tab.{any, length-tab}
 use Rattle.whole.specs.Tests.{any_or}
 use Rattle.model.specs.Limits.{max_exponent, file_identifiers, record_identifiers}
@@ -55,12 +54,12 @@ file_range m =
     larger k = go (dec_lt record_identifiers k) where
       go : Dec (record_identifiers < k) → eqb k 0 || ltb file_identifiers k ≡ eqb k 0 || ltb record_identifiers k || ltb file_identifiers k
       go (yes l) = rw (lt-ltb file_identifiers k (omega arith), lt-ltb record_identifiers k l) (or_again (eqb k 0))
-      go (no l) = rw (le-ltb record_identifiers k (omega arith), or_false (eqb k 0))
+      go (no l) = rw (le-ltb record_identifiers k (omega arith), or-false (eqb k 0))
 
     swap : (a b c : Bool) → a || b || c ≡ a || c || b
     swap true b c = refl
-    swap false true c = sym (or_true c)
-    swap false false c = sym (or_false c)
+    swap false true c = sym (or-true c)
+    swap false false c = sym (or-false c)
 
 module _ (b : List ℕ) where
   -- the counts of a body are those of its set

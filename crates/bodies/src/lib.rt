@@ -1,5 +1,7 @@
 // What the body of each kind of field says, read from its bytes. A body's counts are asked first, then its length; the other functions
 // require that both passed.
+#![tactic(auto)]
+
 ghost use Rattle.std.specs.Prelude.{◌≡◌, false, ◌||◌, ◌≤◌, ltb, length};
 ghost use Rattle.whole.specs.Tab.{any};
 ghost use Rattle.model.specs.Limits.{file_identifiers, max_disturbance};
@@ -26,7 +28,7 @@ const MAX_HALFSPACES: usize = 8;
 
 // ---- a set
 // How many coordinates, factors, terms and generators a set has.
-#[derive(Drop)]
+#[derive(Clone, Copy)]
 struct SetCounts {
     dimension: usize,
     factors: usize,

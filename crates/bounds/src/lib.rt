@@ -1,4 +1,6 @@
 // The box around a set, and the check of a set against an unsafe region.
+#![tactic(auto)]
+
 ghost use Rattle.std.specs.Prelude.{◌≡◌};
 ghost use Rattle.zonotope.specs.Record.{given};
 ghost use Rattle.bounds.specs.Answer.{bounds_of, verdict_of};

@@ -1,4 +1,6 @@
 // Whether identifiers from the next one on are fresh for a set. A part of `sums`, of `hull` and of `run`.
+#![tactic(auto)]
+
 ghost use Rattle.std.specs.Prelude.{◌≡◌, not, ◌||◌, ◌≤◌, ltb, get_or};
 ghost use Rattle.whole.specs.Tab.{tab, any};
 ghost use Rattle.model.specs.Limits.{first_fresh, last_fresh};

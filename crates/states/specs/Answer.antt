@@ -1,5 +1,5 @@
 -- Document 01's number and values for each case of an answer.
-use Rattle.std.specs.Prelude.{List, [], Bool, true, false, ℕ, length}
+use Rattle.std.specs.Prelude.{[], Bool, true, false, ℕ, length}
 use Rattle.whole.specs.Tab.{tab}
 use Rattle.model.specs.Set.{at}
 use Rattle.model.specs.Operations.{Box}

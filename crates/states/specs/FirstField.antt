@@ -1,6 +1,6 @@
 -- The first field of an input, by the input's own bytes.
 use Rattle.std.specs.Prelude.{◌≡◌, refl, List, [], ◌∷◌, Bool, true, ◌||◌, ℕ, zero, suc, ◌+◌, ◌*◌, ◌<◌, ◌≤◌, length, take, drop}
-use Rattle.std.proofs.Common.{sym, ◌∙◌, ap, zero-add, suc-add, arith, length-take, get_or-take, take-take, take_all, length-take-le}
+use Rattle.std.proofs.Common.{sym, ◌∙◌, ap, zero-add, suc-add, arith, get_or-take, take-take, take_all, length-take-le}
 use Rattle.std.proofs.Math.Path.{ap₂}
 use Rattle.std.proofs.Math.Bool.{false}
 use Rattle.std.proofs.Math.Decide.{dec_lt}

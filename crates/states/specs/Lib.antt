@@ -3,9 +3,7 @@
 --     State     what a state means, and what a field leaves
 --     Answer    document 01's number and values for each case of an answer
 --     Taken     one field given to a state of a run
---     Recorded  the record of a sound state means that state, and a field leaves the record of what the definitions leave
 pub mod FirstField
 pub mod State
 pub mod Answer
 pub mod Taken
-pub mod Recorded

@@ -1,10 +1,12 @@
 // The state of a run and its answers. A part of `run`.
+#![tactic(auto)]
+
 use zonotope::PolyZonotope;
 
 // The state of a run: the current set, the next fresh identifier (document 01: the mark), how many fields were accepted, whether one was
 // refused, and for each coordinate what folding added to its radius in the accepted fields. Before the first accepted field there is no
 // set, and what stands in its place doesn't matter.
-#[derive(Drop)]
+#[derive(Clone, Copy)]
 pub struct State {
     pub set: PolyZonotope,
     pub next: u32,
@@ -14,7 +16,7 @@ pub struct State {
 }
 
 // A refused field: the cause's number, and the position of the field's first byte.
-#[derive(Drop)]
+#[derive(Clone, Copy)]
 pub struct Refusal {
     pub number: u8,
     pub place: usize,
@@ -22,7 +24,7 @@ pub struct Refusal {
 
 // What is said of a field: a box (its ends stand beside this in the answer), a verdict, or a refusal. A field given to a run that is over is
 // skipped. `Unfit` refuses the call and not the field: a work slice is too short or the state isn't one of a run; the number is document 01's.
-#[derive(Drop)]
+#[derive(Clone, Copy)]
 pub enum Outcome {
     Inside,
     Safe,
@@ -34,7 +36,7 @@ pub enum Outcome {
 
 // An answer: the field's number, how many bytes it took, its outcome, and the box's ends for the first `sides` coordinates; every other
 // place is 0.
-#[derive(Drop)]
+#[derive(Clone, Copy)]
 pub struct Answer {
     pub field: usize,
     pub bytes: usize,
@@ -45,7 +47,7 @@ pub struct Answer {
 }
 
 // An answer, and the state that the field leaves.
-#[derive(Drop)]
+#[derive(Clone, Copy)]
 pub struct Fielded {
     pub answer: Answer,
     pub state: State,

@@ -1,4 +1,6 @@
 // The box and the verdict of a set whose counts are known to be within limits.
+#![tactic(auto)]
+
 ghost use Rattle.std.specs.Prelude.{◌≡◌};
 ghost use Rattle.model.specs.Operations.{low, high, safe};
 ghost use Rattle.model.specs.Run.{first_of};

@@ -1,7 +1,7 @@
 -- Laws of the numbers in bytes, of any width.
 use Rattle.std.specs.Prelude.{◌≡◌, List, ◌||◌, ℕ, zero, suc, ◌+◌, ◌*◌, ◌-◌, ◌^◌, ◌<◌, ◌≤◌, pos, negsuc, nat_abs, ◌-ℤ◌}
 use Rattle.std.proofs.Common.{sym, ap, ◌∙◌, zero-add, suc-add, pow-suc, arith, lt-ltb, le-ltb, to_z-of_z}
-use Rattle.std.proofs.Math.Bool.{or_false}
+use Rattle.std.proofs.Math.Bool.{or-false}
 use Rattle.std.proofs.Math.Decide.{dec_lt}
 use Rattle.std.specs.Int.{Width}
 use mir.Val.{SFits, hbits, to_z, of_z}
@@ -83,4 +83,4 @@ pub only-negative : (b : List ℕ) → ((j : ℕ) → byte b j < 256) → (i n :
 only-negative b h i n =
     any_or negative (beyond 2147483648) (words b i n)
     ∙ ap (any negative (words b i n) ||◌) (any_none _ n _ (λ k l. le-ltb _ _ (word_size b h (i + 4 * k))))
-    ∙ or_false (any negative (words b i n))
+    ∙ or-false (any negative (words b i n))

@@ -1,4 +1,6 @@
 // Numbers in bytes, the least byte first, read from a slice and written into lent slices.
+#![tactic(auto)]
+
 ghost use Rattle.std.specs.Prelude.{◌≡◌, map, ◌||◌, ◌+◌, ◌*◌, ◌^◌, ◌≤◌, ◌<◌, ltb, length, nat_abs};
 ghost use Rattle.whole.specs.Tab.{tab, any};
 ghost use Rattle.whole.specs.Write.{write};

@@ -1,4 +1,6 @@
 // A set in memory: one record by value that holds its own arrays.
+#![tactic(auto)]
+
 ghost use Rattle.std.specs.Prelude.{◌≡◌};
 ghost use Rattle.model.specs.Valid.{bad_counts};
 ghost use Rattle.model.specs.Run.{no_set};
@@ -26,7 +28,7 @@ pub const MAX_SPAN: u64 = 1048576;
 
 // The radius of each coordinate by where it came from: what a step or a hull carried on, what rounding and what folding added, and what a
 // set or a disturbance gave. No part can be negative; the radius is their sum.
-#[derive(Drop)]
+#[derive(Clone, Copy)]
 pub struct Radii {
     pub carried: [u32; 6],
     pub rounded: [u32; 6],
@@ -35,7 +37,7 @@ pub struct Radii {
 }
 
 // The same at 64 bits, for results that aren't finished.
-#[derive(Drop)]
+#[derive(Clone, Copy)]
 pub struct WideRadii {
     pub carried: [u64; 6],
     pub rounded: [u64; 6],
@@ -45,7 +47,7 @@ pub struct WideRadii {
 
 // A sparse polynomial zonotope with generators and radii, in units of the last place (document 01: grains). A term's exponents stand in
 // a row of 12, its coefficients and a generator's numbers in a row of 6. Places that the counts leave unused hold 0.
-#[derive(Drop)]
+#[derive(Clone, Copy)]
 pub struct PolyZonotope {
     pub dimension: usize,
     pub factors: usize,
@@ -60,7 +62,7 @@ pub struct PolyZonotope {
 }
 
 // What examining a set says: it is valid, or it is refused with document 01's number.
-#[derive(Drop)]
+#[derive(Clone, Copy)]
 pub enum Examined {
     Accepted,
     Refused(u8),

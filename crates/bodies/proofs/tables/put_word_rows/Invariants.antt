@@ -1,0 +1,11 @@
+-- `bodies::tables::put_word_rows` meets its contract: each turn writes a row.
+use Prim.Native.Nat.{◌+◌, ◌*◌, ◌-◌}
+use Rattle.model.specs.Bytes.{word}
+use Rattle.bodies.specs.Rows.{RowsWritten}
+use Rattle.bodies.proofs.tables.put_word_rows.Given as goal
+
+abbrev pub invariant-loop-t : goal.invariant-loop-t
+invariant-loop-t l = RowsWritten l.initial.out l.width (λ t k. word l.b (l.i + t * l.stride + 4 * k)) l.n l.rows l.out l.t
+
+abbrev pub decreases-loop-t : goal.decreases-loop-t
+decreases-loop-t l = l.rows - l.t

@@ -1,0 +1,12 @@
+-- `along::terms_low` meets its contract: the sum so far is that of the terms passed.
+use mathlib.Core.Path.{◌≡◌}
+use Prim.Native.Nat.{◌-◌, ◌*◌, ◌≤◌}
+use lib.IntN.{nat_abs}
+use Rattle.verdicts.specs.Along.{row_bound, least_sum}
+use Rattle.verdicts.proofs.along.terms_low.Given as goal
+
+abbrev pub invariant-loop-t : goal.invariant-loop-t
+invariant-loop-t l = (l.t ≤ l.h) × (l.sum ≡ least_sum l.a l.e l.xs l.p l.n l.t) × (nat_abs (least_sum l.a l.e l.xs l.p l.n l.t) ≤ l.t * row_bound)
+
+abbrev pub decreases-loop-t : goal.decreases-loop-t
+decreases-loop-t l = l.h - l.t

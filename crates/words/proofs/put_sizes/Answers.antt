@@ -1,0 +1,15 @@
+-- `words::put_sizes` meets its contract: each turn writes a size.
+use Rattle.words.specs.Writing.{writing_none, writing_more, writing_all}
+use native.Mathlib.Omega.{arith}
+use Rattle.words.proofs.put_sizes.Goals as goal
+
+pub loop-k-init : goal.loop-k-init
+loop-k-init c = writing_none _ _ _ _
+
+pub loop-k-preserved : goal.loop-k-preserved
+loop-k-preserved c =
+    let at = c in
+    writing_more _ _ _ _ at.loop-k.out at.loop-k.k at.loop-k.invariant (omega arith) c.size_at.ensures
+
+pub returns : goal.returns
+returns c = writing_all _ _ _ _ c.loop-k.out c.loop-k.k c.loop-k.invariant (omega arith)
