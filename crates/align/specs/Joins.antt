@@ -1,8 +1,8 @@
 -- The rows, the centre and the radii that are written for two examined records are those of the model's sum.
-use Rattle.std.specs.Prelude.{◌≡◌, refl, ℕ, ◌+◌, ◌-◌, ◌*◌, ◌<◌, ◌≤◌, length, get_or, ℤ, pos, nat_abs, ◌*ℤ◌}
+use Rattle.std.specs.Prelude.{◌≡◌, refl, ℕ, ◌+◌, ◌*◌, ◌<◌, ◌≤◌, length, get_or, ℤ, pos, nat_abs, ◌*ℤ◌}
 use Rattle.std.proofs.Math.Path.{sym, ap₂}
 use Rattle.std.proofs.Common.{◌∙◌, ap, subst, arith}
-use mathlib.Core.List.{List, ◌++◌, map, map_append}
+use mathlib.Core.List.{List, ◌++◌, map, map-append}
 use Rattle.std.proofs.Math.IntN.{◌+ℤ◌}
 use Rattle.whole.specs.Tab.{tab, tab_cong, map-tab, length-tab}
 use Rattle.whole.specs.Ring.{one-*ℤ}
@@ -85,7 +85,7 @@ module _ (a b : PolyZonotope) (x : Examined a) (y : Examined b) where
         wide_row ms all o.identifiers exponents coefficients (a.terms + t) t b.factors b.exponents ids (term_row b t)
         (row-second 12 0 e₀ (flat 12 xs) (flat 12 ys) a.terms b.terms xs ys e_fits (λ t j l m. flat-at ys t j m) t l)
         (numbers-second c₀ (terms-held a x) (terms-held b y) c_fits t l)))
-        ∙ sym (map_append wide_term (aligned ms (view a)) (aligned ms (named (listed b.factors ids) (view b)))
+        ∙ sym (map-append wide_term (aligned ms (view a)) (aligned ms (named (listed b.factors ids) (view b)))
         ∙ ap₂ ◌++◌ (aligned-wide ms (view a) a.terms _ refl)
         (aligned-wide ms (named (listed b.factors ids) (view b)) b.terms _ refl))
 
@@ -115,7 +115,7 @@ module _ (a b : PolyZonotope) (x : Examined a) (y : Examined b) where
         tab-++ a.generators b.generators (number_row vectors)
         ∙ ap₂ ◌++◌ (tab_cong a.generators _ _ (numbers-first g₀ (generators_held a x) (generators_held b y) g_fits))
         (tab_cong b.generators _ _ (numbers-second g₀ (generators_held a x) (generators_held b y) g_fits))
-        ∙ sym (map_append wide_vector (tab a.generators (generator_row a)) (tab b.generators (generator_row b))
+        ∙ sym (map-append wide_vector (tab a.generators (generator_row a)) (tab b.generators (generator_row b))
         ∙ ap₂ ◌++◌ (map-tab wide_vector a.generators (generator_row a)) (map-tab wide_vector b.generators (generator_row b)))
 
     pub joins_generators : (ids : List ℕ) (g : List ℤ) → g ≡ vectors → Generators (summed a b ids) g₀ g (a.generators + b.generators)

@@ -1,4 +1,6 @@
 // The sum of two sets before finishing: rows of 12 exponents for common factors and of 6 numbers in lent slices, a centre and radii.
+#![tactic(auto)]
+
 ghost use Rattle.std.specs.Prelude.{List, ℕ, ◌≤◌, length};
 ghost use Rattle.model.specs.Limits.{max_span, last_fresh};
 ghost use Rattle.model.specs.Operations.{joined, renumbered};
@@ -13,14 +15,14 @@ mod numbering;
 pub mod wide;
 
 // Identifiers of up to 24 factors, in the first `count` places.
-#[derive(Drop)]
+#[derive(Clone, Copy)]
 pub struct Identifiers {
     pub count: usize,
     pub numbers: [u32; 24],
 }
 
 // The sum of two sets before finishing, but for what stands in lent slices: how many rows there are, the centre and the radii.
-#[derive(Drop)]
+#[derive(Clone, Copy)]
 pub struct Sum {
     pub terms: usize,
     pub generators: usize,

@@ -2,7 +2,7 @@
 use Rattle.std.specs.Prelude.{◌≡◌, refl, false, ℕ, suc}
 use Rattle.std.proofs.Common.{sym, ap, ◌∙◌, arith}
 use Rattle.std.proofs.Math.Option.{Option, none, some}
-use Rattle.rational.specs.Sum.{All-imp}
+use Rattle.rational.proofs.Sum.{All-imp}
 use Rattle.model.specs.Limits.{record_identifiers}
 use Rattle.model.specs.Set.{Zonotope}
 use Rattle.model.specs.Run.{first_of}

@@ -68,35 +68,6 @@ anew_under {b} c d h k =
     let none : Under b (blank 6) = record { under = λ i. omega (arith, blank-at 6 i) } in
     record { carried = record { under = h }; rounded = record { under = k }; folded = none; given = none }
 
--- ---- the answer for a finished result
--- what finishing gives by whether the result is too wide, and its record
-abbrev finished_by : Bool → PolyZonotope → Finished
-finished_by w r = cond w (record { narrow = false; set = pack no_set }) (record { narrow = true; set = r })
-
-module _ (s : PolyZonotope) (m : Zonotope) where
-  -- settled, a result is answered by whether it is too wide
-  pub settled_as : settled s (finished_as m) ≡ answered (of_result m) s m
-  unfolding first_of
-  settled_as = go (is_too_wide m)
-    where
-      go : (w : Bool) → settled s (finished_by w (pack m)) ≡ answered (first_of ((10 if w) ∷ [])) s m
-      go true = refl
-      go false = refl
-
-  -- so is what finishing gave
-  pub settled-result : {f : Finished} {r : Changed} → r ≡ settled s f → f ≡ finished_as m → r ≡ answered (of_result m) s m
-  settled-result p e = p ∙ ap (settled s) e ∙ settled_as
-
--- ---- a set in wide form and the set itself are answered alike
-pub finished_wide : (weights : List ℕ) (h q : ℕ) (s : Zonotope) → Narrow s
-    → finished_as (finish weights h q (wide s)) ≡ finished_as (finish weights h q s)
-finished_wide weights h q s n = ap₂ finished_by (finish-too_wide weights h q s n) (finish-pack weights h q s n)
-
--- so is a result that holds it
-pub finished_held : (weights : List ℕ) (h q : ℕ) (s : Zonotope) → Narrow s → {m : Zonotope} → m ≡ wide s → {f : Finished}
-    → f ≡ finished_as (finish weights h q m) → f ≡ finished_as (finish weights h q s)
-finished_held weights h q s n e p = p ∙ ap (λ (m : Zonotope). finished_as (finish weights h q m)) e ∙ finished_wide weights h q s n
-
 -- ---- the work space that finishing needs, and the weights
 -- numbers that are all 0 are small
 pub zeros_small : {b : ℕ} (n : ℕ) → Small b (replicate n (pos 0))

@@ -1,4 +1,6 @@
 // What a call that changes a set answers: the changed set, or a refusal with the first set as it came. Under it, a result finished.
+#![tactic(auto)]
+
 ghost use Rattle.std.specs.Prelude.{◌≡◌};
 ghost use Rattle.answers.specs.Answer.{settled, is_refused};
 
@@ -8,7 +10,7 @@ use zonotope::{Examined, PolyZonotope};
 pub mod finishing;
 
 // That the set was changed, with the changed set, or a refusal, with the first set as it came.
-#[derive(Drop)]
+#[derive(Clone, Copy)]
 pub struct Changed {
     pub outcome: Examined,
     pub set: PolyZonotope,

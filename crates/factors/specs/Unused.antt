@@ -10,7 +10,6 @@ use Rattle.whole.specs.Tab.{tab, get_d_tab, tab_cong, map-tab}
 use Rattle.model.specs.Set.{Term}
 use Rattle.model.specs.Valid.{occurs}
 use Rattle.model.specs.Finish.{keep_at, keep_exponents}
-use Rattle.model.specs.Motion.{places}
 use Rattle.rows.specs.Rows.{exponent_row, term_of, terms}
 use Rattle.fold.specs.Marks.{at}
 use Rattle.whole.specs.Tests.{any_found, any_none}

@@ -9,7 +9,8 @@ use Rattle.std.proofs.Math.ListN.{length, get_or, get_or-eq_default}
 use Rattle.std.proofs.Math.IntN.{nat_abs}
 use Rattle.whole.specs.Sum.{sum_by, sum_ℕ, sum-map}
 use Rattle.whole.specs.Tab.{tab, any, length-tab}
-use Rattle.rational.specs.Sum.{All, none, more, All-imp}
+use Rattle.rational.specs.Sum.{All, none, more}
+use Rattle.rational.proofs.Sum.{All-imp}
 use Rattle.model.specs.Limits.{max_span}
 use Rattle.model.specs.Set.{Zonotope, at, radius, term_sizes, generator_sizes, span}
 use Rattle.model.specs.Valid.{occurs, is_too_wide}

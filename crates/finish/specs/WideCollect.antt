@@ -4,7 +4,8 @@ use Rattle.std.proofs.Math.Path.{refl, ap}
 use Rattle.std.proofs.Common.{sym, ◌∙◌, arith}
 use mathlib.Core.List.{List, ◌∷◌, map}
 use Rattle.whole.specs.Sum.{monoid_ℤ}
-use Rattle.rational.specs.Sum.{All, none, more, All-imp}
+use Rattle.rational.specs.Sum.{All, none, more}
+use Rattle.rational.proofs.Sum.{All-imp}
 use Rattle.model.specs.Set.{Term}
 use Rattle.model.specs.Valid.{Order, less, equal, greater, order}
 use Rattle.model.specs.Finish.{by_order, plus_term, insert, collect_into, collect}
@@ -50,8 +51,8 @@ module _ {p : ℕ} (factors : p ≤ 12) where
       → collect_into (map wide_term acc) (map wide_term ts) ≡ map wide_term (collect_into acc ts)
   unfolding collect_into
   into_wide acc none = refl
-  into_wide acc (more {a = t} {l = ts} a rest) = let e = insert-wide t a acc in
-      ap (λ (l : List Term). collect_into l (map wide_term ts)) e.0 ∙ into_wide e.1 rest
+  into_wide {acc = ks} acc (more {a = t} {l = ts} a rest) = let e = insert-wide t a acc in
+      ap (λ (l : List Term). collect_into l (map wide_term ts)) e.0 ∙ into_wide {acc = insert t ks} e.1 rest
 
   pub collect-wide : {n : ℕ} {ts : List Term} → All (Row p n) ts → collect (map wide_term ts) ≡ map wide_term (collect ts)
   collect-wide rows = into_wide none (All-imp (λ t r. r.exponents-long) rows)

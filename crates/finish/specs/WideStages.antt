@@ -9,7 +9,8 @@ use Rattle.std.proofs.Math.ListN.{get_or-eq_default}
 use Rattle.whole.specs.Sum.{Monoid, monoid_ℕ, monoid_ℤ}
 use Rattle.whole.specs.Tab.{any}
 use Rattle.rational.specs.Power.{even}
-use Rattle.rational.specs.Sum.{All, none, more, All-imp}
+use Rattle.rational.specs.Sum.{All, none, more}
+use Rattle.rational.proofs.Sum.{All-imp}
 use Rattle.model.specs.Limits.{max_exponent}
 use Rattle.model.specs.Set.{Term, longer}
 use Rattle.model.specs.Valid.{is_zero, zeros, occurs}

@@ -1,4 +1,6 @@
 // Finishing a result that is held in rows of 12 exponents and of 6 numbers: the stages in their order, the span, and the record.
+#![tactic(auto)]
+
 ghost use Rattle.std.specs.Prelude.{◌≡◌, ◌*◌, ◌^◌, ◌≤◌, length};
 ghost use Rattle.whole.specs.Tab.{tab};
 ghost use Rattle.model.specs.Finish.{finish, fold_high, fold_terms, fold_generators};
@@ -14,7 +16,7 @@ mod record;
 mod span;
 
 // A result that isn't finished, without its terms and generators. Places that the counts leave unused hold 0.
-#[derive(Drop)]
+#[derive(Clone, Copy)]
 pub struct Unfinished {
     pub dimension: usize,
     pub factors: usize,
@@ -24,7 +26,7 @@ pub struct Unfinished {
 }
 
 // How many terms and generators are left, with the centre and the folded parts of the radii that make up for the others.
-#[derive(Drop)]
+#[derive(Clone, Copy)]
 pub struct Reduced {
     pub terms: usize,
     pub generators: usize,
@@ -33,7 +35,7 @@ pub struct Reduced {
 }
 
 // The record of a finished result, or that its span is too wide, with the record of no set.
-#[derive(Drop)]
+#[derive(Clone, Copy)]
 pub struct Finished {
     pub narrow: bool,
     pub set: zonotope::PolyZonotope,

@@ -49,7 +49,7 @@ pub fn pack(
 }
 
 // The numbers of a record but for its radii.
-#[derive(Drop)]
+#[derive(Clone, Copy)]
 struct Numbers {
     centre: [i32; 6],
     coefficients: [i32; 240],

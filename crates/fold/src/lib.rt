@@ -1,5 +1,7 @@
 // Folding rows of numbers into a centre and radii: tests on a row of exponents, the size of a row, the fold of a row, and the passes that
 // fold some rows and keep the others.
+#![tactic(auto)]
+
 ghost use Rattle.std.specs.Prelude.{◌≡◌, List, map, ℕ, ◌+◌, ◌*◌, ◌^◌, ◌≤◌, ◌<◌, length, get_or, drop, nat_abs, ltb};
 ghost use Rattle.model.specs.Limits.{max_exponent};
 ghost use Rattle.model.specs.Set.{plus_ℤ, plus_ℕ};

@@ -3,8 +3,7 @@
 --     Rows         what rows of exponents and coefficients hold
 --     Compare      the answer of a comparison, and tests of it
 --     Words        bytes as the digits of a number: lists of bytes are in the order of what they spell
---     RowWords     a row of exponents as two numbers
---     Masks        binary digits that every byte of a row lacks
+--     Masks        whether a byte lacks binary digits
 --     Places       what holds of each place of a list
 --     Terms        terms by their places
 --     Cells        a row of numbers that was written, bounds on all numbers
@@ -14,7 +13,6 @@ pub mod WorkSpace
 pub mod Rows
 pub mod Compare
 pub mod Words
-pub mod RowWords
 pub mod Masks
 pub mod Places
 pub mod Terms

@@ -1,6 +1,8 @@
 // Which terms and generators are folded, and the stages of finishing that fold them: terms with an exponent that is too large, and the
 // smallest terms and generators until a limit is met. Marks and sizes stand in local arrays: for 161 rows, a hull's, where there are no
 // more, so that little is cleared, and else for 860.
+#![tactic(auto)]
+
 ghost use Rattle.std.specs.Prelude.{◌≡◌, false, ℕ, ◌+◌, ◌*◌, ◌^◌, ◌≤◌, ◌<◌, length, drop};
 ghost use Rattle.whole.specs.Tab.{tab};
 ghost use Rattle.model.specs.Finish.{size, fold_term, fold_generator, fold_until};

@@ -13,10 +13,8 @@ use Rattle.model.specs.Field.{too_many}
 use Rattle.model.proofs.Shape.{Shaped}
 use Rattle.model.proofs.SumShape.{joined-ready, renumbered-ready, renumbered-dimension}
 use Rattle.zonotope.specs.declared.PolyZonotope.{PolyZonotope}
-use Rattle.zonotope.specs.declared.Examined.TheVariants as Accept
 use Rattle.zonotope.specs.Record.{view}
 use Rattle.zonotope.specs.Counts.{countable}
-use Rattle.zonotope.specs.Valid.{passed}
 use Rattle.align.specs.declared.Identifiers.{Identifiers}
 use Rattle.align.specs.declared.Sum.{Sum}
 use Rattle.align.specs.Sum.{Factors, Common, Space, Joined}
@@ -26,7 +24,8 @@ use Rattle.finish.specs.Held.{held, finished_as}
 use Rattle.finish.specs.Wide.{wide}
 use Rattle.finish.specs.WideFinish.{Narrow}
 use Rattle.answers.specs.Accepted.{AcceptedRecord, ready}
-use Rattle.answers.specs.Finishing.{parts_under, Finishable, finished_held, zeros_small}
+use Rattle.answers.specs.Finishing.{parts_under, Finishable, zeros_small}
+use Rattle.answers.proofs.Settled.{finished_held}
 use Rattle.summing.specs.Summable.{Summable}
 use Rattle.summing.specs.Wide.{small_in, small_mono}
 

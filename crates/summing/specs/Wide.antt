@@ -26,7 +26,8 @@ use Rattle.finish.specs.WideFinish.{Narrow}
 use Rattle.answers.specs.Accepted.{AcceptedRecord, own_record}
 use Rattle.zonotope.proofs.ViewPack.{view_shaped}
 use Rattle.summing.specs.Summand.{for_sum}
-use Rattle.answers.specs.Finishing.{parts_under, Finishable, finished_held}
+use Rattle.answers.specs.Finishing.{parts_under, Finishable}
+use Rattle.answers.proofs.Settled.{finished_held}
 
 -- radii at 64 bits, and the first six numbers of each part
 abbrev pub wide_radii_of : Radii → WideRadii

@@ -1,4 +1,6 @@
 // The library's calls that change a set. A refusal gives the first set back as it came.
+#![tactic(auto)]
+
 ghost use Rattle.std.specs.Prelude.{◌≡◌};
 ghost use Rattle.model.specs.Limits.{standard_weights};
 ghost use Rattle.model.specs.Operations.{disturb, reduce, tied_sum, independent_sum};
