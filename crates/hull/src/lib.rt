@@ -1,4 +1,6 @@
 // The hull of two sets, so that one set carries both outcomes. A refusal gives the first set back as it came.
+#![tactic(auto)]
+
 ghost use Rattle.std.specs.Prelude.{◌≡◌};
 ghost use Rattle.model.specs.Limits.{standard_weights};
 ghost use Rattle.model.specs.Hull.{hull};

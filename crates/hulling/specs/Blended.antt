@@ -2,7 +2,7 @@
 use Rattle.std.specs.Prelude.{◌≡◌, get_or, take, drop, replicate, ℤ, pos, ◌+ℤ◌, ◌*ℤ◌}
 use Rattle.std.proofs.Math.Path.{refl, sym, ap, ap₂}
 use Rattle.std.proofs.Common.{subst, ◌∙◌, arith, take_at, drop_at}
-use mathlib.Core.List.{List, [], ◌∷◌, ◌++◌, map, map_append}
+use mathlib.Core.List.{List, [], ◌∷◌, ◌++◌, map, map-append}
 use Prim.Native.Nat.{ℕ, ◌+◌, ◌*◌, ◌<◌, ◌≤◌}
 use Rattle.std.proofs.Math.ListN.{length, length-map, length-append}
 use Rattle.std.proofs.lemmas.List.{length-replicate}
@@ -46,7 +46,7 @@ split_rows : (own rest : ℕ) (x : ℕ → Term) (A B : List Term) → length A 
     → (tab own x ≡ map wide_term A) × (tab rest (λ t. x (own + t)) ≡ map wide_term B)
 split_rows own rest x A B l e =
     let y : ℕ → Term = λ t. x (own + t) in
-    let both : tab own x ++ tab rest y ≡ map wide_term A ++ map wide_term B = sym (tab-++ own rest x) ∙ e ∙ map_append wide_term A B in
+    let both : tab own x ++ tab rest y ≡ map wide_term A ++ map wide_term B = sym (tab-++ own rest x) ∙ e ∙ map-append wide_term A B in
     let first-long = length-tab own x in
     let A-long = length-map A wide_term ∙ l in (
       sym (take_at _ (tab rest y) own first-long) ∙ ap (take own) both ∙ take_at _ (map wide_term B) own A-long,

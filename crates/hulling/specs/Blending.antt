@@ -2,11 +2,12 @@
 use Rattle.std.specs.Prelude.{◌≡◌, cond, ℕ, ◌+◌, ◌*◌, ◌%◌, ◌<◌, ◌≤◌, eqb, length, get_or, ℤ, pos, ◌*ℤ◌}
 use Rattle.std.proofs.Math.Path.{sym, ap, ap₂}
 use Rattle.std.proofs.Common.{◌∙◌}
-use mathlib.Core.List.{List, [], ◌∷◌, ◌++◌, map, map_append}
+use mathlib.Core.List.{List, [], ◌∷◌, ◌++◌, map, map-append}
 use native.Mathlib.Omega.{arith}
 use Rattle.whole.specs.Tab.{tab, tab_cong, get_d_tab, map-tab}
 use Rattle.whole.specs.Write.{write, write-length, write-at, write-before}
-use Rattle.rational.specs.Sum.{All, All-++}
+use Rattle.rational.specs.Sum.{All}
+use Rattle.rational.proofs.Sum.{All-++}
 use Rattle.model.specs.Set.{Term, at}
 use Rattle.model.specs.Hull.{blend}
 use Rattle.rows.specs.Rows.{exponent_row, number_row, term_of, rows_of}
@@ -160,7 +161,7 @@ module _ (z e f₀ : List ℕ) (d c w₀ : List ℤ) (n own rest : ℕ) where
         (of-second : tab rest (λ t. term_of e c (own + t) (own + t)) ≡ map wide_term B) (v-long : length v.exponents ≡ n)
         (A-long : All (λ t. length t.exponents ≡ n) A) (B-long : All (λ t. length t.exponents ≡ n) B) where
       both : tab rows (λ t. term_of e c t t) ≡ map wide_term (A ++ B)
-      both = tab-++ own rest (λ t. term_of e c t t) ∙ ap₂ ◌++◌ of-first of-second ∙ sym (map_append wide_term A B)
+      both = tab-++ own rest (λ t. term_of e c t t) ∙ ap₂ ◌++◌ of-first of-second ∙ sym (map-append wide_term A B)
 
       -- rows that are each so made of another, of which the terms are known
       made : (g : Term → Term) (m : ℕ) (y x : ℕ → Term) (ts : List Term) → ((t : ℕ) → t < m → y t ≡ g (x t))
@@ -185,8 +186,8 @@ module _ (z e f₀ : List ℕ) (d c w₀ : List ℤ) (n own rest : ℕ) where
           (made (blend_wide n 1 half) own _ (λ t. term_of e c t t) A with_first of-first ∙ sym (wide_blends n 1 A-long))
           (made (blend_wide n 1 turned_half) rest _ (λ t. term_of e c (own + t) (own + t)) B with_second of-second
           ∙ sym (wide_turns n 1 B-long))
-          ∙ sym (map_append wide_term (map (blend 1) A) (map (blend 1) (map turned B)))
-          ∙ ap (map wide_term) (sym (map_append (blend 1) A (map turned B)))
+          ∙ sym (map-append wide_term (map (blend 1) A) (map (blend 1) (map turned B)))
+          ∙ ap (map wide_term) (sym (map-append (blend 1) A (map turned B)))
 
       pub blend-rows : rows_of exponents numbers (1 + (rows + rows))
           ≡ map wide_term (blend 1 v ∷ (map (blend 0) (A ++ B) ++ map (blend 1) (A ++ map turned B)))
@@ -196,4 +197,4 @@ module _ (z e f₀ : List ℕ) (d c w₀ : List ℤ) (n own rest : ℕ) where
           ∙ ap₂ ◌++◌ row_alone
           (tab-++ rows rows (λ x. result (1 + x))
           ∙ ap₂ ◌++◌ rows_without rows-with
-          ∙ sym (map_append wide_term (map (blend 0) (A ++ B)) (map (blend 1) (A ++ map turned B))))
+          ∙ sym (map-append wide_term (map (blend 0) (A ++ B)) (map (blend 1) (A ++ map turned B))))

@@ -1,5 +1,5 @@
 -- The rounded blend of two accepted records in rows: a set in wide form, with numbers for which nothing overflows. Finished it is the hull.
-use Rattle.std.specs.Prelude.{◌≡◌, ℕ, ◌+◌, ◌*◌, ◌-◌, ◌^◌, ◌<◌, ◌≤◌, length, replicate, ℤ, pos}
+use Rattle.std.specs.Prelude.{◌≡◌, ℕ, ◌+◌, ◌*◌, ◌^◌, ◌<◌, ◌≤◌, length, replicate, ℤ, pos}
 use Rattle.std.proofs.Common.{sym, subst, ◌∙◌, arith}
 use Rattle.std.proofs.Math.Path.{ap}
 use mathlib.Core.List.{List, map}
@@ -30,7 +30,8 @@ use Rattle.finish.specs.Held.{PartsUnder, held, finished_as}
 use Rattle.finish.specs.Wide.{wide, wide_term, wide_vector}
 use Rattle.finish.specs.WideFinish.{Narrow}
 use Rattle.answers.specs.Accepted.{ready}
-use Rattle.answers.specs.Finishing.{Finishable, part, part_length, rows-part, part_small, finished_held, zeros_small}
+use Rattle.answers.specs.Finishing.{Finishable, part, part_length, rows-part, part_small, zeros_small}
+use Rattle.answers.proofs.Settled.{finished_held}
 use Rattle.summing.specs.Summable.{Summable}
 use Rattle.hulling.specs.Sizes.{rounded_vector_small}
 use Rattle.hulling.specs.Blended.{Blended}

@@ -1,5 +1,7 @@
 // Under the call and the field that give a hull: the hull of two sets that were examined and accepted, which holds every point between a
 // point of each at equal factor values, by a fresh factor that blends them.
+#![tactic(auto)]
+
 ghost use Rattle.std.specs.Prelude.{◌≡◌, ◌+◌, ◌*◌, ◌≤◌, ◌<◌, ltb, length};
 ghost use Rattle.model.specs.Limits.{max_factors, standard_weights};
 ghost use Rattle.model.specs.Operations.{joined};

@@ -1,13 +1,14 @@
 -- Terms of zeros that are left out: they round to zeros, and are no inexact roundings.
-use Rattle.std.specs.Prelude.{true, List, [], ◌∷◌, ◌++◌, map, ◌≡◌, refl, ℕ, zero, suc, ◌+◌, ℤ, pos, nat_abs}
+use Rattle.std.specs.Prelude.{true, List, [], ◌∷◌, map, ◌≡◌, refl, ℕ, zero, suc, ◌+◌, ℤ, pos, nat_abs}
 use Rattle.std.proofs.Math.Bool.{and-eq-true_iff}
-use Rattle.std.proofs.lemmas.List.{map_append}
+use Rattle.std.proofs.lemmas.List.{map-append}
 use Rattle.std.proofs.Common.{sym, ◌∙◌, ap, ap₂, add-zero, eqb-true}
 use Rattle.whole.specs.Round.{round, inexact}
 use Rattle.whole.specs.Size.{abs_zero}
 use Rattle.whole.specs.Sum.{monoid_ℕ, sum_by, sum_ℕ, sum-++}
 use Rattle.whole.specs.Tab.{all}
-use Rattle.rational.specs.Sum.{All, none, more, All-imp, All-map}
+use Rattle.rational.specs.Sum.{All, none, more}
+use Rattle.rational.proofs.Sum.{All-imp, All-map}
 use Rattle.model.specs.Set.{Term, at}
 use Rattle.model.specs.Valid.{is_zero, zeros}
 use Rattle.raw.specs.Kept.{Zero, Kept}
@@ -36,7 +37,7 @@ zeros-exact (x ∷ v) e (suc i) = zeros-exact v (tail_zero x v e) i
 pub kept-round : {xs ys : List Term} → Kept xs ys → Kept (map round_term xs) (map round_term ys)
 kept-round {xs} k = record {
   rest = map round_term k.rest;
-  whole = ap (map round_term) k.whole ∙ map_append round_term xs k.rest;
+  whole = ap (map round_term) k.whole ∙ map-append round_term xs k.rest;
   zero = All-map round_term (All-imp (λ t e. zeros-round t.coefficients e) k.zero);
 }
 

@@ -1,5 +1,5 @@
 -- The image under the wide step is the image under the step, in wide form: rows of 12 exponents and 6 numbers, continued by zeros.
-use mathlib.Core.List.{List, [], ◌∷◌, ◌++◌, map, map_append}
+use mathlib.Core.List.{List, [], ◌∷◌, ◌++◌, map, map-append}
 use Rattle.std.specs.Prelude.{◌≡◌, ℕ, zero, suc, ◌+◌, ◌/◌, ◌%◌, ◌<◌, ◌≤◌, ℤ, pos, get_or}
 use Rattle.std.proofs.Math.Path.{refl, sym, ap₂}
 use Rattle.std.proofs.Common.{◌∙◌, ap, arith}
@@ -57,16 +57,16 @@ module _ (p : Step) (shaped : StepShaped p) (z : Zonotope) where
   same-pairs [] = refl
   same-pairs (t ∷ ts) =
       ap₂ ◌∷◌ (same-squared t)
-      (map_append wide_term (map (paired W z t) ts) (pairs W z ts)
+      (map-append wide_term (map (paired W z t) ts) (pairs W z ts)
       ∙ ap₂ (λ (x y : List Term). x ++ y) (same_map (paired W z t) (paired p z t) (same-paired t) ts) (same-pairs ts)
-      ∙ sym (map_append wide_term (map (paired p z t) ts) (pairs p z ts)))
+      ∙ sym (map-append wide_term (map (paired p z t) ts) (pairs p z ts)))
 
   pub same-terms : map wide_term (raw W z).terms ≡ map wide_term (raw p z).terms
   unfolding raw
   same-terms =
-      map_append wide_term (map (own W z) z.terms) (pairs W z z.terms)
+      map-append wide_term (map (own W z) z.terms) (pairs W z z.terms)
       ∙ ap₂ (λ (x y : List Term). x ++ y) (same_map (own W z) (own p z) same-own z.terms) (same-pairs z.terms)
-      ∙ sym (map_append wide_term (map (own p z) z.terms) (pairs p z z.terms))
+      ∙ sym (map-append wide_term (map (own p z) z.terms) (pairs p z z.terms))
 
   pub same-centre : (i : ℕ) → i < 6 → at (raw W z).centre i ≡ at (raw p z).centre i
   unfolding raw

@@ -1,5 +1,7 @@
 // The image of a set under a polynomial step, before it is finished: raw numbers, then each rounded, with what rounding and the independent
 // part add to the radii.
+#![tactic(auto)]
+
 ghost use Rattle.std.specs.Prelude.{◌*◌, ◌≤◌, length};
 ghost use Rattle.rows.specs.Rows.{Small};
 ghost use Rattle.forms.specs.Numbers.{six};
@@ -16,7 +18,7 @@ pub mod rounding;
 use zonotope::PolyZonotope;
 
 // An image: its terms stand in the first rows of the work slices, the rest here. Its radii are what is carried and what rounding added.
-#[derive(Drop)]
+#[derive(Clone, Copy)]
 pub struct Image {
     pub rows: usize,
     pub centre: [i64; 6],

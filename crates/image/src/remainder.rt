@@ -86,7 +86,7 @@ fn slope_sum(lines: &[i64; 36], i: usize, w: &[u64; 6]) -> u64
     sum
 }
 
-// |Q_jl|·(D_j·r_l + typeof.r_j.D_l + r_j·r_l).
+// |Q_jl|·(D_j·r_l + r_j·D_l + r_j·r_l).
 fn cell(q: u64, dj: u64, dl: u64, rj: u64, rl: u64) -> u64
     requires { (q ≤ 32768) × (dj ≤ 1048576) × (dl ≤ 1048576) × (rj ≤ 1048576) × (rl ≤ 1048576) }
     ensures { result ≡ cell_of q dj dl rj rl }

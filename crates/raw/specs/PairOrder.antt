@@ -1,6 +1,6 @@
 -- The used pairs of the table are the definition's pairs, in its order.
 use Rattle.std.specs.Prelude.{Bool, true, false, cond, ◌≡◌, ltb}
-use mathlib.Core.List.{List, [], ◌∷◌, ◌++◌, map, map_append}
+use mathlib.Core.List.{List, [], ◌∷◌, ◌++◌, map, map-append}
 use Rattle.std.proofs.Math.Path.{refl, sym, ap, ap₂}
 use Rattle.std.proofs.Common.{◌∙◌, le_of_suc-le-suc, add-zero, lt-ltb, le-ltb}
 use Prim.Native.Nat.{ℕ, zero, suc, ◌+◌, ◌*◌, ◌-◌, ◌%◌, ◌<◌, ◌≤◌}
@@ -86,7 +86,7 @@ module _ (p : Step) (z : Zonotope) (h : ℕ) (most : h ≤ 40) (term : ℕ → T
       nothing = refl
   rows-used (suc left) first e =
       ap (map row) (used_append h (tab (suc left) (line first)) (rows_from 40 (first + 1) left))
-      ∙ map_append row (used h (tab (suc left) (line first))) (used h (rows_from 40 (first + 1) left))
+      ∙ map-append row (used h (tab (suc left) (line first))) (used h (rows_from 40 (first + 1) left))
       ∙ ap₂ (λ (a b : List Term). a ++ b) (ap (map row) (line-used first (suc left) e)) (rows-used left (first + 1) (omega arith))
       ∙ go (dec_lt first h)
     where
@@ -97,7 +97,7 @@ module _ (p : Step) (z : Zonotope) (h : ℕ) (most : h ≤ 40) (term : ℕ → T
           let n : h - first ≡ suc (h - (first + 1)) = omega arith in
           ap (λ (m : ℕ). map row (tab m (line first)) ++ map form (pairs p z (later (first + 1)))) n
           ∙ ap (λ (a : List Term). a ++ map form (pairs p z (later (first + 1)))) (row-pairs first (h - (first + 1)) (omega arith))
-          ∙ ap (form (squared p z (term first)) ∷◌) (sym (map_append form (map (paired p z (term first)) (later (first + 1)))
+          ∙ ap (form (squared p z (term first)) ∷◌) (sym (map-append form (map (paired p z (term first)) (later (first + 1)))
           (pairs p z (later (first + 1)))))
           ∙ sym (ap (map form) (pairs-later first (h - (first + 1)) n))
       go (no l) =

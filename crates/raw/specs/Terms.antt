@@ -1,5 +1,5 @@
 -- The rows that the own terms and the used pairs fill hold the raw terms of the definition, in wide form.
-use mathlib.Core.List.{List, [], ◌∷◌, ◌++◌, map, map_append}
+use mathlib.Core.List.{List, [], ◌∷◌, ◌++◌, map, map-append}
 use Rattle.std.specs.Prelude.{◌≡◌, refl, ℕ, zero, suc, ◌+◌, ◌*◌, ◌/◌, ◌%◌, ◌<◌, ◌≤◌, ℤ, pos, length, get_or}
 use Rattle.std.proofs.Math.Path.{sym, ap₂}
 use Rattle.std.proofs.Common.{◌∙◌, ap, add-zero, zero-add, arith}
@@ -131,7 +131,7 @@ module _ (a q : List ℤ) (s : PolyZonotope) (ok : InSpan s) (c : List ℤ) wher
       ap₂ (λ (x y : List Term). x ++ y) h
       (pairs-used P z s.terms (counts_in s ok).2 (term_at s) wide_term (pair_row_of both s.coefficients s.exponents) square_row
       pair_row)
-      ∙ sym (map_append wide_term (map (own P z) (tab s.terms (term_at s))) (pairs P z (tab s.terms (term_at s))))
+      ∙ sym (map-append wide_term (map (own P z) (tab s.terms (term_at s))) (pairs P z (tab s.terms (term_at s))))
 
 -- ---- the stage: own terms, then pairs
 -- the own terms' numbers, from the lines

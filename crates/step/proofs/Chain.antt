@@ -29,7 +29,8 @@ use Rattle.answers.specs.Answer.{answered, of_result, result-narrow}
 use Rattle.answers.specs.Order.{neither}
 use Rattle.answers.specs.Chain.{Usable, answer_chained, accepted_valid, valid_held, held-again}
 use Rattle.step.specs.Answer.{without_room, refusal_of, ranged_refusal_of}
-use Rattle.step.specs.Order.{before_stepping, step-order, ranged-order, all-passed}
+use Rattle.step.specs.Order.{before_stepping}
+use Rattle.step.proofs.Order.{step-order, ranged-order, all-passed}
 
 -- where no cause refuses, of which the first is for a step's counts, the result is valid
 result_valid : (s : PolyZonotope) (p : Step) (gains : ℕ → ℕ) (short : Bool) (rest : List Cause) {m : Zonotope} {number : Option ℕ}

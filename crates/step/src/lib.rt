@@ -1,4 +1,6 @@
 // The polynomial step x' = c + Ax + Q(x, x) of a set, in lent work slices; also where A and Q are known within half-widths.
+#![tactic(auto)]
+
 ghost use Rattle.std.specs.Prelude.{◌≡◌, ℕ, ◌≤◌, pos, length, get_or};
 ghost use Rattle.model.specs.Limits.{standard_weights};
 ghost use Rattle.model.specs.Step.{step};

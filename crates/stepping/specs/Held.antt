@@ -1,5 +1,5 @@
 -- The rounded image of an accepted set in rows: a set in wide form, with numbers for which nothing overflows.
-use Rattle.std.specs.Prelude.{◌≡◌, refl, ℕ, ◌*◌, ◌-◌, ◌^◌, ◌≤◌, length, ℤ, pos}
+use Rattle.std.specs.Prelude.{◌≡◌, refl, ℕ, ◌*◌, ◌^◌, ◌≤◌, length, ℤ, pos}
 use Rattle.std.proofs.Math.Path.{sym, ap, ap₂}
 use Rattle.std.proofs.Common.{subst, ◌∙◌, arith}
 use mathlib.Core.List.{List, [], map}
@@ -33,8 +33,9 @@ use Rattle.finish.specs.Held.{PartsUnder, held, finished_as}
 use Rattle.finish.specs.Wide.{wide, wide_vector}
 use Rattle.finish.specs.WideFinish.{Narrow}
 use Rattle.answers.specs.Accepted.{AcceptedRecord, ready}
-use Rattle.answers.specs.Finishing.{anew_under, Finishable, part, part_length, rows-part, part_small, finished_held}
-use Rattle.rational.specs.Sum.{All-imp}
+use Rattle.answers.specs.Finishing.{anew_under, Finishable, part, part_length, rows-part, part_small}
+use Rattle.answers.proofs.Settled.{finished_held}
+use Rattle.rational.proofs.Sum.{All-imp}
 use Rattle.stepping.specs.Shortened.{with_terms, Shortened, shortened, finish_shortened}
 use Rattle.stepping.specs.Work.{work_numbers, work_exponents}
 

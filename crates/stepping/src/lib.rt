@@ -1,5 +1,7 @@
 // Under the calls that give a step: the image of an accepted set under an accepted step, rounded and finished; the tests of a step's own
 // numbers; the work slices cleared.
+#![tactic(auto)]
+
 ghost use Rattle.std.specs.Prelude.{◌≡◌, ℕ, ◌≤◌, pos, length, get_or};
 ghost use Rattle.model.specs.Limits.{standard_weights};
 ghost use Rattle.model.specs.Ranged.{gaining_step};

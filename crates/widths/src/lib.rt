@@ -1,4 +1,6 @@
 // Under the ranged step: what the half-widths beside the entries of A and Q add to S of each coordinate, and the test that refuses them.
+#![tactic(auto)]
+
 ghost use Rattle.std.specs.Prelude.{◌≡◌, ◌+◌, ◌*◌, ◌≤◌, ◌<◌, length};
 ghost use Rattle.whole.specs.Tab.{tab};
 ghost use Rattle.model.specs.Ranged.{gain};
@@ -16,7 +18,7 @@ use zonotope::PolyZonotope;
 // The half-widths of A, as A itself, are in 1/4096; products of two coordinates need no such factor.
 const UNIT: u64 = 4096;
 
-// What S of each coordinate gains: 4096·w·M over A's row and typeof.w.M.M over Q's form, with M the spans of the set.
+// What S of each coordinate gains: 4096·w·M over A's row and w·M·M over Q's form, with M the spans of the set.
 pub fn gains(m: usize, n: usize, da: &[u32], dq: &[u32], s: PolyZonotope) -> [u64; 6]
     requires { WidthsAccepted m n da.now dq.now × InSpan s }
     ensures { (result ≡ tab 6 (gain n (widths_of da.now dq.now) (view s))) × Gaining m result }

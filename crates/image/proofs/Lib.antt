@@ -1,0 +1,2 @@
+-- A step's image meets `Imaged`, stage by stage.
+pub mod Imaged

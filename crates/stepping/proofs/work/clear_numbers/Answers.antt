@@ -1,0 +1,17 @@
+-- `work::clear_numbers` meets its contract.
+use native.Mathlib.Omega.{arith}
+use mathlib.Core.Path.{refl}
+use lib.IntN.{pos}
+use Rattle.forms.specs.Filling.{writing_begins, first-again}
+use Rattle.stepping.specs.Work.{work_numbers}
+use Rattle.stepping.specs.Cleared.{clearing_ends}
+use Rattle.stepping.proofs.work.clear_numbers.Goals as goal
+
+pub loop-i-init : goal.loop-i-init
+loop-i-init c = writing_begins _ _ _ _
+
+pub loop-i-preserved : goal.loop-i-preserved
+loop-i-preserved c = let at = c in first-again _ _ _ _ _ _ at.loop-i.invariant (omega arith) refl
+
+pub returns : goal.returns
+returns c = let at = c in clearing_ends (pos 0) work_numbers _ at.requires _ _ at.loop-i.invariant (omega arith)
