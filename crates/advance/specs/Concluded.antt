@@ -6,7 +6,7 @@ use Rattle.std.proofs.Math.Option.{Option, none, some}
 use Rattle.std.proofs.Math.Bool.{true, false, cond}
 use Rattle.std.proofs.lemmas.Bool.{not-false}
 use Rattle.whole.specs.Tests.{or_left, or_right}
-use Rattle.rational.specs.Sum.{All-imp}
+use Rattle.rational.proofs.Sum.{All-imp}
 use Rattle.model.specs.Limits.{first_fresh, last_fresh}
 use Rattle.model.specs.Set.{Zonotope}
 use Rattle.model.specs.Operations.{Box, box}

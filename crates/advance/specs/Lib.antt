@@ -7,7 +7,6 @@
 --     Concluded       what is answered and left, by what a field's kind does to the set
 --     HeaderLaws      a header's causes by the input's own bytes
 --     ConclusionLaws  the six places of an answer's ends, and what is answered by what a field comes to
---     FieldLaws       a field by its tag, and the first field of what is left of the input
 pub mod Header
 pub mod Running
 pub mod Advanced
@@ -16,4 +15,3 @@ pub mod Totals
 pub mod Concluded
 pub mod HeaderLaws
 pub mod ConclusionLaws
-pub mod FieldLaws

@@ -11,7 +11,7 @@ use Rattle.bodies.specs.Given.{pack_sized}
 use Rattle.states.specs.declared.Fielded.{Fielded}
 use Rattle.states.specs.State.{record_of}
 use Rattle.states.specs.Answer.{answer_of}
-use Rattle.states.specs.Recorded.{passes, next_fits, viewed_record, taken_record}
+use Rattle.states.proofs.Recorded.{passes, next_fits, viewed_record, taken_record}
 use Rattle.advance.specs.Running.{Running}
 use Rattle.advance.specs.Advanced.{step_worked, advanced}
 

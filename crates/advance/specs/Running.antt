@@ -1,10 +1,8 @@
 -- A state that a run can have: its set, where a field was accepted, is valid, its next identifier is in its range and above the set's, and
 -- its totals of what folding added are those of a run.
-use Rattle.std.specs.Prelude.{◌≡◌, refl, false, cond, ℕ, ◌<◌, ◌≤◌, eqb, length, get_or}
-use Rattle.std.proofs.Common.{sym, ◌∙◌, ap, subst, arith, ne_eqb}
-use Rattle.std.proofs.Math.Option.{none, some}
+use Rattle.std.specs.Prelude.{◌≡◌, false, ℕ, ◌<◌, ◌≤◌, length, get_or}
+use Rattle.std.proofs.Common.{arith, ne_eqb}
 use Rattle.model.specs.Limits.{max_dimension, last_tag, max_total}
-use Rattle.model.specs.Run as Model
 use Rattle.model.specs.Run.{current}
 use Rattle.model.specs.Library.{bad_next}
 use Rattle.zonotope.specs.Record.{view}

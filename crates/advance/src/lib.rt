@@ -1,4 +1,6 @@
 // One field given to a state that a run can have. A part of `run`, and of the programs that take fields as they come.
+#![tactic(auto)]
+
 ghost use Rattle.std.specs.Prelude.{◌≡◌, false, ◌≤◌, pos, length};
 ghost use Rattle.std.proofs.Math.Option.{none};
 ghost use Rattle.model.specs.Run.{first_of, first_field};
@@ -16,14 +18,14 @@ mod kinds;
 mod totals;
 
 // A field's header: how many bytes the field has, as many as the header says or all that are left, and whether it is there as a whole.
-#[derive(Drop)]
+#[derive(Clone, Copy)]
 pub struct Header {
     pub bytes: usize,
     pub whole: bool,
 }
 
 // An answer, the state that the field leaves, and whether a step was worked out in the work slices.
-#[derive(Drop)]
+#[derive(Clone, Copy)]
 pub struct Advanced {
     pub answer: Answer,
     pub state: State,

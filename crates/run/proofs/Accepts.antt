@@ -13,7 +13,6 @@ use Rattle.model.specs.Run.{tag, body, kind_of, current, meant, refusal, accepte
 use Rattle.model.proofs.Accepted.{no_refusal}
 use Rattle.model.proofs.ByKind.{known}
 use Rattle.model.proofs.Answers.{Answers, with-box, with_verdict, with_nothing, answers}
-use Rattle.states.specs.declared.Outcome.{Outcome}
 use Rattle.states.specs.declared.Outcome.TheVariants.{Inside, Safe}
 use Rattle.states.specs.Answer.{outcome_of, box_of, accepts}
 

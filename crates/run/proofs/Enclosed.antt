@@ -25,7 +25,7 @@ use Rattle.states.specs.declared.Fielded.{Fielded}
 use Rattle.states.specs.State.{record_of}
 use Rattle.states.specs.Answer.{outcome_of, box_of, answer_of, unfit_answer, accepts}
 use Rattle.run.specs.Enclosed.{Call, short, fields_taken, Moment, follow, InEnds, Kept, Always, Enclosed}
-use Rattle.states.specs.Recorded.{means}
+use Rattle.states.proofs.Recorded.{means}
 use Rattle.run.proofs.Reached.{fielded_is, short_is}
 use Rattle.run.proofs.Accepts.{accepts_is, inside_is, safe_is}
 

@@ -7,3 +7,7 @@ pub mod Reached
 pub mod Accepts
 pub mod Enclosed
 pub mod RunEnclosed
+-- The laws of a run's course: it begins, goes on by a field, and ends.
+pub mod CourseLaws
+-- one turn of a run over a whole input, and the loop's invariant
+pub mod Turning

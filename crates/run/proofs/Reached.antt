@@ -22,7 +22,7 @@ use Rattle.states.specs.declared.Outcome.TheVariants.{Unfit}
 use Rattle.states.specs.State.{viewed, record_of, beginning}
 use Rattle.states.specs.Answer.{outcome_of, answer_of, unfit_answer}
 use Rattle.states.specs.Taken.{taken}
-use Rattle.states.specs.Recorded.{passes, next_fits, viewed_record, taken_record}
+use Rattle.states.proofs.Recorded.{passes, next_fits, viewed_record, taken_record}
 use Rattle.advance.specs.RecordRuns.{record_runs}
 use Rattle.run.specs.Unfit.{bad_totals, of_rest, unfit, totals_good}
 use Rattle.run.specs.Field.{returned, fielded}
@@ -96,7 +96,7 @@ module _ {st : State} (h : Reached st) (c : Call) where
 calls_reach : {st : State} → Reached st → (calls : List Call) → Reached (state_after st calls)
 unfolding state_after
 calls_reach h [] = h
-calls_reach h (c ∷ cs) = calls_reach (call_reaches h c) cs
+calls_reach {st = st} h (c ∷ cs) = calls_reach {st = (called st c).state} (call_reaches h c) cs
 
 -- what the definitions answer refuses no call
 not-unfit : (o : Outcome) (n : ℕ) → ¬ (outcome_of o ≡ Unfit n)

@@ -3,7 +3,7 @@ use mathlib.Core.Path.{◌≡◌, refl, sym, ◌∙◌, ap, subst}
 use mathlib.Core.List.{List, [], ◌∷◌}
 use mathlib.Core.Option.{Option, none, some}
 use mathlib.Core.Bool.{Bool, true, false, cond, true≢false}
-use Prim.Native.Nat.{ℕ, zero, suc, ◌+◌, ◌<◌}
+use Prim.Native.Nat.{ℕ, suc, ◌+◌}
 use native.Mathlib.Omega.{arith}
 use lib.Dec.{T}
 use lib.ListN.{length}
@@ -14,21 +14,18 @@ use Rattle.model.specs.Run.{tag, body, kind_of, current, after, accepted, answer
 use Rattle.model.specs.Run.{fields}
 use Rattle.model.specs.Motion as Motion
 use Rattle.model.specs.Motion.{Picks}
-use Rattle.model.proofs.Shape.{counted}
 use Rattle.model.proofs.Sound.{Sound, begin_sound, after_sound}
 use Rattle.model.proofs.Enclosed as Over
 use Rattle.states.specs.declared.Answer.{Answer}
 use Rattle.states.specs.declared.Outcome.{Outcome}
-use Rattle.states.specs.declared.Outcome.TheVariants.{Inside, Safe}
 use Rattle.zonotope.specs.Record.{view, pack}
 use Rattle.states.specs.State.{record_of}
 use Rattle.states.specs.Answer.{outcome_of, answer_of, accepts}
-use Rattle.states.specs.Recorded.{means}
 use Rattle.run.specs.Whole.{last_answer, no_answer, ran_of}
-use Rattle.run.specs.Course.{chosen, over_answer}
+use Rattle.run.proofs.CourseLaws.{chosen, over_answer}
 use Rattle.run.specs.Enclosed.{follow_all, last_field, KeptAtEnd, RunEnclosed}
 use Rattle.run.proofs.Accepts.{accepts_is}
-use Rattle.run.proofs.Enclosed.{kept, given}
+use Rattle.run.proofs.Enclosed.{kept}
 
 -- a field that isn't accepted leaves set and count
 stays : (u : Model.State) (f : List ℕ) → accepted u f ≡ false → (current u ≡ current (after u f)) × ((after u f).count ≡ u.count)

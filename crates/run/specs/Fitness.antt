@@ -1,8 +1,8 @@
 -- A call that can be taken: its state is one that a run can have.
-use Rattle.std.specs.Prelude.{◌≡◌, ◌||◌, ℕ, ◌<◌, ltb, length}
+use Rattle.std.specs.Prelude.{◌≡◌, ◌||◌, ◌<◌, ltb, length}
 use Rattle.std.proofs.Common.{◌∙◌, ap, arith, eq-eqb}
 use Rattle.std.proofs.Math.Option.{none}
-use Rattle.std.proofs.Math.Bool.{or_false}
+use Rattle.std.proofs.Math.Bool.{or-false}
 use Rattle.whole.specs.Tab.{any}
 use Rattle.model.specs.Limits.{first_fresh, last_fresh, max_dimension}
 use Rattle.model.specs.Run.{first_of, current, no_set}
@@ -24,7 +24,7 @@ pub first_running : (st : State) → st.count ≡ 0 → length st.folded ≡ max
 unfolding any
 first_running st z six e = let p = rest-passed _ st.folded e in record {
   set = λ h. absurd (omega arith);
-  next = ap (bad_next st.next) (no-set st z) ∙ or_false _ ∙ p.0;
+  next = ap (bad_next st.next) (no-set st z) ∙ or-false _ ∙ p.0;
   six_totals = six;
   totals = few_totals st.folded p.1;
 }

@@ -5,7 +5,6 @@
 --     Taking    what a call returns and leaves in the work slices
 --     Whole     a whole input: the last answer and the last state
 --     Course    how far a run over a whole input has come, and what is still to come
---     Turning   one turn of a run over a whole input, and the loop's invariant
 --     Enclosed  what is claimed of every motion: demand 3 of the records that are returned
 --     NeverUnfit  what is claimed of every call: which ones are refused
 pub mod Unfit
@@ -14,6 +13,5 @@ pub mod Field
 pub mod Taking
 pub mod Whole
 pub mod Course
-pub mod Turning
 pub mod Enclosed
 pub mod NeverUnfit

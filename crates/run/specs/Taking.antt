@@ -1,5 +1,5 @@
 -- What a call returns and leaves in the work slices, from what the field gave.
-use Rattle.std.specs.Prelude.{◌≡◌, refl, List, true, ltb}
+use Rattle.std.specs.Prelude.{◌≡◌, List, ltb}
 use Rattle.std.proofs.Common.{sym, ◌∙◌, ltb-false}
 use Rattle.std.proofs.Math.Path.{ap}
 use Rattle.std.proofs.Math.Option.{Option, none, some}
@@ -12,7 +12,7 @@ use Rattle.zonotope.specs.declared.Examined.TheVariants.{Accepted, Refused}
 use Rattle.zonotope.specs.Valid.{passed}
 use Rattle.zonotope.specs.Answer.{examined, accepted, refused-with}
 use Rattle.stepping.specs.Work.{work_numbers, work_exponents}
-use Rattle.step.specs.Answer.{without_room, cleared_if}
+use Rattle.step.specs.Answer.{without_room}
 use Rattle.states.specs.declared.State.{State}
 use Rattle.states.specs.declared.Fielded.{Fielded}
 use Rattle.states.specs.State.{viewed}

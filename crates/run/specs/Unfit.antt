@@ -4,7 +4,7 @@ use Rattle.std.proofs.Common.{sym, ◌∙◌, arith, eq-eqb, ne_eqb, ltb-false}
 use Rattle.std.proofs.Math.Path.{ap}
 use mathlib.Core.List.{List, [], ◌∷◌, ◌++◌}
 use Rattle.std.proofs.Math.Option.{Option, none}
-use Rattle.std.proofs.Math.Bool.{or_false}
+use Rattle.std.proofs.Math.Bool.{or-false}
 use Rattle.std.proofs.Math.Decide.{dec_lt}
 use Rattle.std.proofs.Math.Dec.{ltb}
 use Rattle.std.proofs.Math.ListN.{get_or-eq_default}
@@ -52,7 +52,7 @@ module _ (st : State) where
   unfolding unfit first_of viewed any
   first-order z =
       rw (eq-eqb st.count 0 z)
-      (ap (λ b. first_of (of_rest b st.folded)) (or_false (ltb st.next first_fresh || ltb last_fresh st.next)))
+      (ap (λ b. first_of (of_rest b st.folded)) (or-false (ltb st.next first_fresh || ltb last_fresh st.next)))
 
   -- later the set, and whether the next identifier is above its own
   pub later-order : 0 < st.count

@@ -1,5 +1,5 @@
 -- A whole input, from the beginning to its end or its first refusal.
-use Rattle.std.specs.Prelude.{◌≡◌, refl, List, [], ◌∷◌, Bool, true, false, cond, not, ◌&&◌, ◌||◌, ℕ, ◌+◌, length}
+use Rattle.std.specs.Prelude.{◌≡◌, List, [], ◌∷◌, Bool, true, false, cond, not, ◌&&◌, ◌||◌, ℕ, ◌+◌, length}
 use Rattle.model.specs.Field.{skipped}
 use Rattle.model.specs.Run as Model
 use Rattle.model.specs.Run.{begin, after, answer, fields, run}

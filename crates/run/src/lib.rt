@@ -1,4 +1,6 @@
 // A run: one field after the other, from the bytes of a run file to answers. No call asks anything of its caller.
+#![tactic(auto)]
+
 ghost use Rattle.std.specs.Prelude.{◌≡◌, pos, length};
 ghost use Rattle.stepping.specs.Work.{work_numbers, work_exponents};
 ghost use Rattle.step.specs.Answer.{without_room, cleared_if};
@@ -17,7 +19,7 @@ mod taking;
 const FIRST_FRESH: u32 = 65536;
 
 // What a whole input comes to: how many of its fields were accepted, the answer for the last one that was looked at, and the state then.
-#[derive(Drop)]
+#[derive(Clone, Copy)]
 pub struct Ran {
     pub accepted: usize,
     pub last: Answer,
@@ -26,7 +28,7 @@ pub struct Ran {
 
 // How far a run has come: the last answer and state, where the next field begins, whether a step was worked out, and whether the run is
 // over or the input at its end.
-#[derive(Drop)]
+#[derive(Clone, Copy)]
 struct Course {
     last: Answer,
     state: State,

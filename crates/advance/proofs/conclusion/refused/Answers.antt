@@ -1,0 +1,7 @@
+-- `conclusion::refused` meets its contract.
+use mathlib.Core.Path.{refl}
+use Rattle.advance.specs.ConclusionLaws.{advanced_by}
+use Rattle.advance.proofs.conclusion.refused.Goals as goal
+
+pub returns : goal.returns
+returns c = advanced_by _ c.without_box-answer.ensures refl

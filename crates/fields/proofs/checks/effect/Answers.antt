@@ -1,0 +1,11 @@
+-- `checks::effect` meets its contract.
+use Rattle.fields.specs.Checks.{check_effect}
+use Rattle.fields.proofs.checks.effect.Goals as goal
+
+pub check-v-requires : goal.check-v-requires
+check-v-requires c = c.requires
+
+pub returns : goal.returns
+returns c =
+    let a = c.args in
+    check_effect a.body.now a.next a.first c.requires c.check-v.ensures c.of_verdict.ensures
