@@ -1,6 +1,6 @@
 -- One read or one write more, and what a program says then.
 use Rattle.std.proofs.Common.{◌≡◌, ℕ, ◌<◌, Bool, true, false, not, ◌&&◌, ◌||◌, eqb, List, [], ◌∷◌, ◌++◌, length, take, sym, refl, ap, ◌∙◌, subst, ap₂, true≢false, append_assoc, append-nil, eqb-true}
-use mathlib.Core.Bool.{or_assoc, or_false}
+use mathlib.Core.Bool.{or_assoc, or-false}
 use borrow.Author.Tests.{not-true}
 use Rattle.console.specs.declared.Input.{Input}
 use Rattle.console.specs.declared.Output.{Output}
@@ -32,7 +32,7 @@ bytes-more (q ∷ rs) r = ap (q.bytes ++◌) (bytes-more rs r) ∙ sym (append_a
 
 reads_failed : (rs : List Read) (r : Read) → some_read_failed (rs ++ (r ∷ [])) ≡ some_read_failed rs || r.failed
 unfolding some_read_failed
-reads_failed [] r = or_false r.failed
+reads_failed [] r = or-false r.failed
 reads_failed (q ∷ rs) r = ap (q.failed ||◌) (reads_failed rs r) ∙ sym (or_assoc q.failed (some_read_failed rs) r.failed)
 
 -- one that brought no byte into a buffer that has room, and did not fail
@@ -67,7 +67,7 @@ handed_more (v ∷ ws) w = ap (v.bytes ++◌) (handed_more ws w) ∙ sym (append
 
 writes_failed : (ws : List Write) (w : Write) → some_write_failed (ws ++ (w ∷ [])) ≡ some_write_failed ws || not w.whole
 unfolding some_write_failed
-writes_failed [] w = or_false (not w.whole)
+writes_failed [] w = or-false (not w.whole)
 writes_failed (v ∷ ws) w =
     ap (not v.whole ||◌) (writes_failed ws w) ∙ sym (or_assoc (not v.whole) (some_write_failed ws) (not w.whole))
 
@@ -112,30 +112,49 @@ reads_more {first} {rs = rs} t well B r filled some = record {
 
 -- ---- and of its writes
 pub told-nothing : Told without_input without_output false false false [] []
-unfolding wrote_all some_write_failed
+unfolding took_all wrote_all some_read_failed some_write_failed
 told-nothing = record {
-  of_reads = told_no_reads;
-  of_writes = record { output_is = refl; failed_is = refl; write_failed = λ e. absurd (true≢false (sym e)) };
+  input_is = refl;
+  output_is = refl;
+  unread_is = refl;
+  failed_is = refl;
+  read_failed = λ e. absurd (true≢false (sym e));
+  write_failed = λ e. absurd (true≢false (sym e));
+  end_read = λ e. absurd (true≢false (sym e));
 }
 
 module _ {i : Input} {o : Output} {ended unread failed : Bool} {rs : List Read} {ws : List Write}
     (t : Told i o ended unread failed rs ws) (well : unread ≡ false) where
+  reads_told : ToldReads without_input i ended unread rs
+  reads_told = record { input_is = t.input_is; unread_is = t.unread_is; read_failed = t.read_failed; end_read = t.end_read }
+
   -- a read into a buffer that has room
   pub told_read : (B : List ℕ) (r : Filled) → FilledFrom i B r → 0 < length B
       → Told r.input o (eqb r.count 0 && not r.failed) r.failed failed
       (rs ++ (record { asked = length B; bytes = take r.count B; failed = r.failed } ∷ [])) ws
-  told_read B r filled some = record { of_reads = reads_more t.of_reads well B r filled some; of_writes = t.of_writes }
+  told_read B r filled some =
+      let q = reads_more reads_told well B r filled some in
+      record {
+        input_is = q.input_is;
+        output_is = t.output_is;
+        unread_is = q.unread_is;
+        failed_is = t.failed_is;
+        read_failed = q.read_failed;
+        write_failed = t.write_failed;
+        end_read = q.end_read;
+      }
 
   -- a write
   pub told_wrote : failed ≡ false → (bytes : List ℕ) (whole : Bool) {p : Output} → p ≡ wrote o bytes whole
       → Told i p ended false (not whole) rs (ws ++ (record { bytes = bytes; whole = whole } ∷ []))
   told_wrote went bytes whole sent = record {
-    of_reads = subst (λ b. ToldReads without_input i ended b rs) well t.of_reads;
-    of_writes = record {
-      output_is = sent ∙ ap (λ q. wrote q bytes whole) t.of_writes.output_is ∙ sym (wrote_more without_output ws this);
-      failed_is = sym (writes_failed ws this ∙ ap (◌|| not whole) (sym t.of_writes.failed_is ∙ went));
-      write_failed = not-whole ws bytes whole;
-    };
+    input_is = t.input_is;
+    output_is = sent ∙ ap (λ q. wrote q bytes whole) t.output_is ∙ sym (wrote_more without_output ws this);
+    unread_is = sym well ∙ t.unread_is;
+    failed_is = sym (writes_failed ws this ∙ ap (◌|| not whole) (sym t.failed_is ∙ went));
+    read_failed = λ e. absurd (true≢false (sym e));
+    write_failed = not-whole ws bytes whole;
+    end_read = t.end_read;
   }
     where
       this : Write

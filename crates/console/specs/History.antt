@@ -63,21 +63,20 @@ pub record WriteFailed (ws : List Write) : Type 0 where
   pub bytes : List ℕ
   pub last : ws ≡ before ++ (record { bytes = bytes; whole = false } ∷ [])
 
--- What a program says of its reads of an input, which began with `first`, where these were made in this order: that one failed exactly
--- where one did, which is then the last, and that the input has ended only where a read met the end.
+-- What a program says of its reads and writes where these were made, in this order: that a read or a write failed exactly where one did,
+-- which is then the last, and that the input has ended only where a read met the end.
+pub record Told (input : Input) (output : Output) (ended unread failed : Bool) (reads : List Read) (writes : List Write) : Type 0 where
+  pub input_is : input ≡ took_all without_input reads
+  pub output_is : output ≡ wrote_all without_output writes
+  pub unread_is : unread ≡ some_read_failed reads
+  pub failed_is : failed ≡ some_write_failed writes
+  pub read_failed : unread ≡ true → ReadFailed reads
+  pub write_failed : failed ≡ true → WriteFailed writes
+  pub end_read : ended ≡ true → EndRead reads
+
+-- what it says of its reads of an input, which began with `first`
 pub record ToldReads (first input : Input) (ended unread : Bool) (reads : List Read) : Type 0 where
   pub input_is : input ≡ took_all first reads
   pub unread_is : unread ≡ some_read_failed reads
   pub read_failed : unread ≡ true → ReadFailed reads
   pub end_read : ended ≡ true → EndRead reads
-
--- what it says of its writes: that one failed exactly where one did, which is then the last
-pub record ToldWrites (output : Output) (failed : Bool) (writes : List Write) : Type 0 where
-  pub output_is : output ≡ wrote_all without_output writes
-  pub failed_is : failed ≡ some_write_failed writes
-  pub write_failed : failed ≡ true → WriteFailed writes
-
--- what it says of both
-pub record Told (input : Input) (output : Output) (ended unread failed : Bool) (reads : List Read) (writes : List Write) : Type 0 where
-  pub of_reads : ToldReads without_input input ended unread reads
-  pub of_writes : ToldWrites output failed writes

@@ -1,24 +1,45 @@
 // Inputs and standard output with their history, and what a program has to say beside them. A token stands for everything that was read, or
 // handed over to be written, up to now; `fill` and `emit` are the only functions that make a later one. What a token is made of is shut
 // (specs/Trace.antt): a proof in another crate can only say of a token by which calls, with which bytes in which order, it came about, and
-// whether it began with standard input or with the file that an argument names.
+// whether it began with standard input or with the file that an argument names. A token can't be copied: each is read or written on once.
 // Trusted, since the proofs' machine has no input and output: `named_file` opens that file, `fill` and `emit` pass exactly these bytes from
-// and to the system, and a read fails where the system says so. Tokens can be copied, and made anew: that a program begins each history
-// once, reads each input and writes at one place and by nothing else is asked by the gate (.ci/calls).
-ghost use Rattle.std.specs.Prelude.{◌≡◌};
-ghost use Rattle.console.specs.Trace.{without_input, OfFile, without_output, wrote, FilledFrom, Answered};
+// and to the system, and a read fails where the system says so. Tokens can be made anew: that a program begins each history once, reads
+// each input and writes at one place and by nothing else is asked by the gate (.ci/calls).
+#![tactic(auto)]
+
+ghost use Rattle.std.specs.Prelude.{◌≡◌, length};
+ghost use Rattle.console.specs.Trace.{without_input, OfFile, without_output, wrote, FilledFrom, Answered, came};
+
+use std::env::FillError;
+use std::fs::File;
+use std::io::{ErrorKind, Print, Read, Stdin, Stdout};
+use std::os::fd::AsRawFd;
+use std::rt::Env;
+use std::{fs, io};
+
+// The system opens no file by a path of more bytes.
+const LONGEST_PATH: usize = 4096;
+
+// Where the bytes of an input come from.
+#[derive(Drop)]
+enum Source {
+    Standard(Stdin),
+    Named(File),
+    Nothing,
+}
 
 // What was read of an input: of standard input, or of the file that the argument of this number names.
 #[derive(Drop)]
 pub struct Input {
     argument: usize,
-    descriptor: i32,
+    source: Source,
     seen: u64,
 }
 
 // What was handed over to be written to standard output.
 #[derive(Drop)]
 pub struct Output {
+    to: Stdout,
     sent: u64,
 }
 
@@ -38,35 +59,36 @@ pub struct Emitted {
 }
 
 // Nothing was read of standard input.
-pub fn nothing_read() -> Input
+pub fn nothing_read(rt: &HostRuntime) -> Input
     ensures { result ≡ without_input }
 {
     Input {
         argument: 0,
-        descriptor: libc::STDIN_FILENO,
+        source: Source::Standard(rt.stdin()),
         seen: 0,
     }
 }
 
 // Nothing was read of the file that the program's argument of this number names. One that isn't named or can't be opened is empty.
-pub fn named_file(argument: usize) -> Input
+pub fn named_file(rt: &HostRuntime, argument: usize) -> Input
     ensures { OfFile argument result }
 {
-    let mut path = io::buffer();
-    let length = os::arg(argument, &mut path);
-    let descriptor = open(&path[..length]);
+    let source = named(rt, argument);
     Input {
         argument,
-        descriptor,
+        source,
         seen: 0,
     }
 }
 
 // Nothing was written.
-pub fn nothing_written() -> Output
+pub fn nothing_written(rt: &HostRuntime) -> Output
     ensures { result ≡ without_output }
 {
-    Output { sent: 0 }
+    Output {
+        to: rt.stdout(),
+        sent: 0,
+    }
 }
 
 // Reads once, as much as there is and the buffer has room for. No bytes, in a buffer that has room, are the end of the input, unless the
@@ -74,10 +96,7 @@ pub fn nothing_written() -> Output
 pub fn fill(i: Input, buf: &mut [u8]) -> Filled
     ensures { FilledFrom i buf.new result }
 {
-    if i.descriptor < 0 {
-        return brought(i, 0, buf);
-    }
-    let got = read(i.descriptor, buf);
+    let got = read(&i.source, buf);
     brought(i, got, buf)
 }
 
@@ -85,67 +104,96 @@ pub fn fill(i: Input, buf: &mut [u8]) -> Filled
 pub fn emit(o: Output, bytes: &[u8]) -> Emitted
     ensures { result.output ≡ wrote o bytes.now result.whole }
 {
-    let whole = io::write_all(libc::STDOUT_FILENO, bytes);
-    let sent = std::num::wrapping_add_u64(o.sent, bytes.len() as u64);
+    let whole = Print::write_all(&o.to, bytes).is_ok();
+    let sent = o.sent.wrapping_add(bytes.len() as u64);
     Emitted {
-        output: Output { sent },
+        output: Output { to: o.to, sent },
         whole,
     }
 }
 
 // Writes to standard error, whose history is nobody's concern.
-pub fn tell(bytes: &[u8]) {
-    io::write_all(libc::STDERR_FILENO, bytes);
+pub fn tell(rt: &HostRuntime, bytes: &[u8]) {
+    let _ = Print::write_all(&rt.stderr(), bytes);
 }
 
 // Whether the program was started with arguments.
-pub fn has_arguments() -> bool {
-    os::arg_count() > 1
+pub fn has_arguments(rt: &HostRuntime) -> bool {
+    !matches!(rt.arg(1, &mut []), Err(FillError::NotPresent))
 }
 
-// A file's descriptor, or -1. The system gives the smallest that is free: where standard input isn't open, a file must not take its place.
-fn open(path: &[u8]) -> i32 {
-    let first = os::open_read(path);
-    if first != libc::STDIN_FILENO {
-        return first;
+// The file that the argument of this number names. Nothing, where there is no such argument, where it is no text, as a path has to be, and
+// where the file can't be opened.
+fn named(rt: &HostRuntime, argument: usize) -> Source {
+    let mut path = [0u8; LONGEST_PATH];
+    let Ok(length) = rt.arg(argument, &mut path) else {
+        return Source::Nothing;
+    };
+    let Ok(path) = str::from_utf8(&path[..length]) else {
+        return Source::Nothing;
+    };
+    match open(rt, path) {
+        Ok(file) => Source::Named(file),
+        Err(_) => Source::Nothing,
     }
-    let second = os::open_read(path);
-    libc::close(first);
-    second
+}
+
+// The system gives the smallest descriptor that is free: where standard input isn't open, a file must not take its place.
+fn open(rt: &HostRuntime, path: &str) -> io::Result<File> {
+    let file = fs::open(rt, path)?;
+    if file.as_raw_fd() == rt.stdin().as_raw_fd() {
+        return file.try_clone();
+    }
+    Ok(file)
 }
 
 // What the system answers to a read. One that a signal interrupts before a byte has come is made again; a proved loop has to end, so it
-// counts down from a number that no run uses up.
-fn read(descriptor: i32, buf: &mut [u8]) -> isize {
-    let mut got = -1;
-    let mut again = true;
-    let mut left = u64::MAX;
-    while left > 0 && again {
-        got = libc::read(descriptor, buf);
-        again = was_interrupted(got);
-        left -= 1;
+// counts up to a number that no run reaches.
+fn read(source: &Source, buf: &mut [u8]) -> io::Result<usize> {
+    for _ in 0..u64::MAX {
+        match read_once(source, buf) {
+            Err(e) if e.kind() == ErrorKind::Interrupted => {}
+            answer => return answer,
+        }
     }
-    got
+    Err(io::Error::from(ErrorKind::Interrupted))
+}
+
+fn read_once(source: &Source, buf: &mut [u8]) -> io::Result<usize> {
+    match source {
+        Source::Standard(stdin) => {
+            let mut stdin = stdin;
+            stdin.read(buf)
+        }
+        Source::Named(file) => {
+            let mut file = file;
+            file.read(buf)
+        }
+        Source::Nothing => Ok(0),
+    }
 }
 
 // What was read, where the system answered this to a read into the buffer.
-fn brought(i: Input, got: isize, buf: &[u8]) -> Filled
-    ensures { FilledFrom i buf.now result × Answered got buf.now result }
+fn brought(i: Input, got: io::Result<usize>, buf: &[u8]) -> Filled
+    ensures history { FilledFrom i buf.now result }
+    ensures answer { Answered got buf.now result }
 {
-    let count = io::count(got, buf);
+    let count = came(&got, buf.len());
     let mut input = i;
-    input.seen = std::num::wrapping_add_u64(i.seen, count as u64);
+    input.seen = input.seen.wrapping_add(count as u64);
     Filled {
         count,
-        failed: got < 0,
+        failed: got.is_err(),
         input,
     }
 }
 
-// Whether a signal interrupted the call that answered this.
-fn was_interrupted(got: isize) -> bool {
-    if got < 0 {
-        return os::errno() == libc::EINTR;
+// How many bytes came, where the system answered this to a read of at most so many.
+fn came(got: &io::Result<usize>, room: usize) -> usize
+    ensures { result ≡ came got.now room }
+{
+    match got {
+        Ok(n) => { if *n < room { *n } else { room } }
+        Err(_) => 0,
     }
-    false
 }

@@ -1,9 +1,17 @@
 // Runs through Design's calls: document 01's listing and its variants, a refusal of each number that a file can give, runs with hulls and
 // with ranged steps, and 4,096 fields after a start set with one more. Standard input holds the runs, each as the length of its bytes (2
 // bytes), a byte that is 1 where only the end is shown, and the run file. Its `stdout` was worked out by other means: docs/EXAMPLES.md.
+#![tactic(auto)]
+
 ghost use Rattle.std.specs.Prelude.{◌≡◌, length};
 
 mod told;
+
+use std::io;
+use std::io::Read;
+
+// No more of standard input is read.
+const ROOM: u64 = 65536;
 
 // The work slices of a step.
 fn numbers() -> [i64; 5160]
@@ -19,25 +27,26 @@ fn exponents() -> [u8; 10320]
 }
 
 // One run, field by field.
-fn play(input: &[u8], w: &mut [i64], e: &mut [u8]) {
+fn play(rt: &impl Print, input: &[u8], w: &mut [i64], e: &mut [u8]) -> io::Result<()> {
     let mut st = run::begin();
     let mut at: usize = 0;
     let mut fields: usize = 0;
     while fields < 4098 {
         let r = run::field(st, at, &input[at..], w, e);
         let a = r.answer;
-        told::answer(a, tag(input, at));
+        told::answer(rt, a, tag(input, at))?;
         let bytes = a.bytes;
         if input.len() - at < bytes {
-            return;
+            return Ok(());
         }
         at += bytes;
         st = r.state;
         if st.over | (at == input.len()) {
-            return;
+            return Ok(());
         }
         fields += 1;
     }
+    Ok(())
 }
 
 // The byte at a place, 0 past the end.
@@ -49,41 +58,42 @@ fn tag(input: &[u8], at: usize) -> u8 {
 }
 
 // One run as a whole: how many fields were accepted, the last answer, and what folding added.
-fn finish(input: &[u8], w: &mut [i64], e: &mut [u8]) {
+fn finish(rt: &impl Print, input: &[u8], w: &mut [i64], e: &mut [u8]) -> io::Result<()> {
     let r = run::run(input, w, e);
-    let a = r.last;
-    told::accepted(r.accepted);
-    told::outcome(a);
-    let st = r.state;
-    let totals = st.folded;
-    told::folded(totals);
+    told::accepted(rt, r.accepted)?;
+    told::outcome(rt, r.last)?;
+    told::folded(rt, r.state.folded)
 }
 
 // One run: its end alone, or all of it.
-fn show(brief: bool, input: &[u8], w: &mut [i64], e: &mut [u8]) {
-    if brief {
-        finish(input, w, e);
-        return;
+fn show(rt: &impl Print, brief: bool, input: &[u8], w: &mut [i64], e: &mut [u8]) -> io::Result<()> {
+    if !brief {
+        play(rt, input, w, e)?;
     }
-    play(input, w, e);
-    finish(input, w, e);
+    finish(rt, input, w, e)
 }
 
-fn main() {
-    let mut input = io::large_buffer();
-    let n = io::read_full(0, &mut input);
+// Every run that is there whole.
+fn show_all(rt: &impl Print, input: &[u8]) -> io::Result<()> {
     let mut w = numbers();
     let mut e = exponents();
     let mut at: usize = 0;
-    while at + 3 <= n {
-        let length = words::short_at(&input, at);
-        let brief = input[at + 2];
+    while input.len() - at >= 3 {
+        let length = words::short_at(input, at);
+        let brief = input[at + 2] == 1;
         let from = at + 3;
-        if n - from < length {
-            return;
+        if input.len() - from < length {
+            return Ok(());
         }
         let to = from + length;
-        show(brief == 1, &input[from..to], &mut w, &mut e);
+        show(rt, brief, &input[from..to], &mut w, &mut e)?;
         at = to;
     }
+    Ok(())
+}
+
+fn main(rt: HostRuntime) -> io::Result<()> {
+    let mut input = Vec::new(rt.alloc());
+    rt.reader().take(ROOM).read_to_end(&mut input)?;
+    show_all(&rt, &input)
 }

@@ -2,227 +2,207 @@
 ghost use Rattle.std.specs.Prelude.{◌+◌, ◌≤◌, ◌<◌, length};
 
 use answers::Changed;
+use std::io;
 use verdicts::Verdict;
 use zonotope::{Examined, PolyZonotope, Radii};
 
 // A number after a blank.
-pub fn number(v: i64) {
-    if v < 0 {
-        io::write_all(1, b" -");
-    } else {
-        io::write_all(1, b" ");
-    }
-    io::print_decimal(1, whole::size(v));
+pub fn number(rt: &impl Print, v: i64) -> io::Result<()> {
+    print!(rt; " {v}")
 }
 
 // The same of a number that is never negative.
-fn natural(n: u32) {
-    io::write_all(1, b" ");
-    io::print_decimal(1, whole::widen_u32(n));
+fn natural(rt: &impl Print, n: u32) -> io::Result<()> {
+    print!(rt; " {n}")
 }
 
 // A byte after a blank.
-pub fn byte(b: u8) {
-    io::write_all(1, b" ");
-    io::print_decimal(1, whole::widen_u8(b));
+pub fn byte(rt: &impl Print, b: u8) -> io::Result<()> {
+    print!(rt; " {b}")
 }
 
 // A count after a blank.
-fn count(n: usize) {
-    io::write_all(1, b" ");
-    io::print_decimal(1, n as u64);
+fn count(rt: &impl Print, n: usize) -> io::Result<()> {
+    print!(rt; " {n}")
 }
 
 // A refusal and its number.
-fn refusal(n: u8) {
-    io::write_all(1, b" refused");
-    number(n as i64);
+fn refusal(rt: &impl Print, n: u8) -> io::Result<()> {
+    print!(rt; " refused {n}")
 }
 
 // The end of a line: a refusal.
-fn refused(n: u8) {
-    refusal(n);
-    io::write_all(1, b"\n");
+fn refused(rt: &impl Print, n: u8) -> io::Result<()> {
+    refusal(rt, n)?;
+    println!(rt)
 }
 
 // That a set was accepted, or its refusal.
-pub fn outcome(o: Examined) {
+pub fn outcome(rt: &impl Print, o: Examined) -> io::Result<()> {
     match o {
-        Examined::Accepted => {
-            io::write_all(1, b" accepted");
-        }
-        Examined::Refused(n) => {
-            refusal(n);
-        }
+        Examined::Accepted => print!(rt; " accepted"),
+        Examined::Refused(n) => refusal(rt, n),
     }
 }
 
 // The end of a line: what examining a set said.
-pub fn examined(o: Examined) {
-    outcome(o);
-    io::write_all(1, b"\n");
+pub fn examined(rt: &impl Print, o: Examined) -> io::Result<()> {
+    outcome(rt, o)?;
+    println!(rt)
 }
 
 // The end of a line: what a check said.
-pub fn judged(v: Verdict) {
+pub fn judged(rt: &impl Print, v: Verdict) -> io::Result<()> {
     match v {
-        Verdict::Safe => {
-            io::write_all(1, b" safe\n");
-        }
-        Verdict::Unknown => {
-            io::write_all(1, b" unknown\n");
-        }
-        Verdict::Refused(n) => {
-            refused(n);
-        }
+        Verdict::Safe => println!(rt; " safe"),
+        Verdict::Unknown => println!(rt; " unknown"),
+        Verdict::Refused(n) => refused(rt, n),
     }
 }
 
 // The end of a line: the ends of the first two coordinates.
-pub fn ends(s: PolyZonotope) {
+pub fn ends(rt: &impl Print, s: PolyZonotope) -> io::Result<()> {
     let b = bounds::box_of(s);
-    number(b.low[0]);
-    number(b.high[0]);
-    number(b.low[1]);
-    number(b.high[1]);
-    io::write_all(1, b"\n");
+    number(rt, b.low[0])?;
+    number(rt, b.high[0])?;
+    number(rt, b.low[1])?;
+    number(rt, b.high[1])?;
+    println!(rt)
 }
 
 // The end of a line: how many factors, terms and generators a changed set has, and its ends; or the refusal.
-pub fn changed(c: Changed) {
-    let o = c.outcome;
+pub fn changed(rt: &impl Print, c: Changed) -> io::Result<()> {
     let s = c.set;
-    match o {
+    match c.outcome {
         Examined::Accepted => {
-            count(s.factors);
-            count(s.terms);
-            count(s.generators);
-            ends(s);
+            count(rt, s.factors)?;
+            count(rt, s.terms)?;
+            count(rt, s.generators)?;
+            ends(rt, s)
         }
-        Examined::Refused(n) => {
-            refused(n);
-        }
+        Examined::Refused(n) => refused(rt, n),
     }
 }
 
 // ---- a whole set, a line for each part
 
 // A line for each part of the set; or the refusal.
-pub fn whole_set(c: Changed) {
-    let o = c.outcome;
-    let s = c.set;
-    match o {
+pub fn whole_set(rt: &impl Print, c: Changed) -> io::Result<()> {
+    match c.outcome {
         Examined::Accepted => {
-            io::write_all(1, b"\n");
-            parts(s);
+            println!(rt)?;
+            parts(rt, c.set)
         }
-        Examined::Refused(n) => {
-            refused(n);
-        }
+        Examined::Refused(n) => refused(rt, n),
     }
 }
 
 // The lines of a set whose counts are within limits.
-fn parts(s: PolyZonotope) {
+fn parts(rt: &impl Print, s: PolyZonotope) -> io::Result<()> {
     let n = s.dimension;
     let p = s.factors;
     let h = s.terms;
     let q = s.generators;
     if zonotope::MAX_DIMENSION < n {
-        return;
+        return Ok(());
     }
     if zonotope::MAX_FACTORS < p {
-        return;
+        return Ok(());
     }
     if zonotope::MAX_TERMS < h {
-        return;
+        return Ok(());
     }
     if zonotope::MAX_GENERATORS < q {
-        return;
+        return Ok(());
     }
-    io::write_all(1, b"  identifiers");
-    naturals(&s.identifiers, p);
-    io::write_all(1, b"\n  centre");
-    numbers(&s.centre, 0, n);
-    terms(s, h, p, n);
-    generators(s, q, n);
-    radii(s.radii, n);
-    io::write_all(1, b"\n");
+    print!(rt; "  identifiers")?;
+    naturals(rt, &s.identifiers, p)?;
+    print!(rt; "\n  centre")?;
+    numbers(rt, &s.centre, 0, n)?;
+    terms(rt, s, h, p, n)?;
+    generators(rt, s, q, n)?;
+    radii(rt, s.radii, n)?;
+    println!(rt)
 }
 
 // A line for each part of the radii.
-fn radii(r: Radii, n: usize)
+fn radii(rt: &impl Print, r: Radii, n: usize) -> io::Result<()>
     requires { n ≤ 6 }
 {
-    io::write_all(1, b"\n  carried");
-    naturals(&r.carried, n);
-    io::write_all(1, b"\n  rounded");
-    naturals(&r.rounded, n);
-    io::write_all(1, b"\n  folded");
-    naturals(&r.folded, n);
-    io::write_all(1, b"\n  given");
-    naturals(&r.given, n);
+    print!(rt; "\n  carried")?;
+    naturals(rt, &r.carried, n)?;
+    print!(rt; "\n  rounded")?;
+    naturals(rt, &r.rounded, n)?;
+    print!(rt; "\n  folded")?;
+    naturals(rt, &r.folded, n)?;
+    print!(rt; "\n  given")?;
+    naturals(rt, &r.given, n)
 }
 
 // A line for each term.
-fn terms(s: PolyZonotope, h: usize, p: usize, n: usize)
+fn terms(rt: &impl Print, s: PolyZonotope, h: usize, p: usize, n: usize) -> io::Result<()>
     requires { (h ≤ 40) × (p ≤ 12) × (n ≤ 6) }
 {
     for t in 0..h {
-        term(s, t, p, n);
+        term(rt, s, t, p, n)?;
     }
+    Ok(())
 }
 
 // Term t: its exponents, then its coefficients.
-fn term(s: PolyZonotope, t: usize, p: usize, n: usize)
+fn term(rt: &impl Print, s: PolyZonotope, t: usize, p: usize, n: usize) -> io::Result<()>
     requires { (t < 40) × (p ≤ 12) × (n ≤ 6) }
 {
-    io::write_all(1, b"\n  term");
-    exponents(&s.exponents, t * 12, p);
-    io::write_all(1, b" :");
-    numbers(&s.coefficients, t * 6, n);
+    print!(rt; "\n  term")?;
+    exponents(rt, &s.exponents, t * 12, p)?;
+    print!(rt; " :")?;
+    numbers(rt, &s.coefficients, t * 6, n)
 }
 
 // A line for each generator.
-fn generators(s: PolyZonotope, q: usize, n: usize)
+fn generators(rt: &impl Print, s: PolyZonotope, q: usize, n: usize) -> io::Result<()>
     requires { (q ≤ 24) × (n ≤ 6) }
 {
     for g in 0..q {
-        generator(s, g, n);
+        generator(rt, s, g, n)?;
     }
+    Ok(())
 }
 
 // Generator g.
-fn generator(s: PolyZonotope, g: usize, n: usize)
+fn generator(rt: &impl Print, s: PolyZonotope, g: usize, n: usize) -> io::Result<()>
     requires { (g < 24) × (n ≤ 6) }
 {
-    io::write_all(1, b"\n  generator");
-    numbers(&s.vectors, g * 6, n);
+    print!(rt; "\n  generator")?;
+    numbers(rt, &s.vectors, g * 6, n)
 }
 
 // The first n of the numbers.
-fn naturals(xs: &[u32], n: usize)
+fn naturals(rt: &impl Print, xs: &[u32], n: usize) -> io::Result<()>
     requires { n ≤ length xs.now }
 {
-    for i in 0..n {
-        natural(xs[i]);
+    for x in &xs[..n] {
+        natural(rt, *x)?;
     }
+    Ok(())
 }
 
 // n of the numbers, from a place on.
-fn numbers(xs: &[i32], from: usize, n: usize)
+fn numbers(rt: &impl Print, xs: &[i32], from: usize, n: usize) -> io::Result<()>
     requires { from + n ≤ length xs.now }
 {
-    for i in 0..n {
-        number(whole::widen(xs[from + i]));
+    for x in &xs[from..from + n] {
+        number(rt, i64::from(*x))?;
     }
+    Ok(())
 }
 
 // n of the exponents, from a place on.
-fn exponents(xs: &[u8], from: usize, n: usize)
+fn exponents(rt: &impl Print, xs: &[u8], from: usize, n: usize) -> io::Result<()>
     requires { from + n ≤ length xs.now }
 {
-    for i in 0..n {
-        byte(xs[from + i]);
+    for x in &xs[from..from + n] {
+        byte(rt, *x)?;
     }
+    Ok(())
 }

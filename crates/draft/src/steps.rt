@@ -1,36 +1,37 @@
 // Examples of the polynomial step.
 use crate::{sets, show};
 use answers::Changed;
+use std::io;
 use zonotope::PolyZonotope;
 
 // The examples that are worked out whole, then refusals with what they leave in the work slices.
-pub fn examples() {
-    io::write_all(1, b"step: a half");
-    show::whole_set(along_a_line(sets::line(1), 2048, 0));
-    io::write_all(1, b"step: exponents 32 + 32");
-    show::whole_set(along_a_line(sets::high_power(), 0, 4096));
-    io::write_all(1, b"step: the listing");
-    show::whole_set(along_a_line(sets::line(4096), -4096, 4096));
-    io::write_all(1, b"step: halves");
-    show::whole_set(along_a_line(sets::halves(), 2048, 0));
-    io::write_all(1, b"step: two coordinates");
-    show::whole_set(in_the_plane(sets::plane()));
-    twelve_factors();
-    refusals();
+pub fn examples(rt: &impl Print) -> io::Result<()> {
+    print!(rt; "step: a half")?;
+    show::whole_set(rt, along_a_line(sets::line(1), 2048, 0))?;
+    print!(rt; "step: exponents 32 + 32")?;
+    show::whole_set(rt, along_a_line(sets::high_power(), 0, 4096))?;
+    print!(rt; "step: the listing")?;
+    show::whole_set(rt, along_a_line(sets::line(4096), -4096, 4096))?;
+    print!(rt; "step: halves")?;
+    show::whole_set(rt, along_a_line(sets::halves(), 2048, 0))?;
+    print!(rt; "step: two coordinates")?;
+    show::whole_set(rt, in_the_plane(sets::plane()))?;
+    twelve_factors(rt)?;
+    refusals(rt)
 }
 
 // The sum of twelve factors, 512 times as large; then x + x² twice. The first of these steps has 90 terms to fold to 40, the second all 860
 // rows.
-fn twelve_factors() {
+fn twelve_factors(rt: &impl Print) -> io::Result<()> {
     let sum = sums::tied_sum(sets::first_six(), sets::next_six());
     let s = sum.set;
     let large = eight_times(eight_times(eight_times(s)));
     let once = along_a_line(large, 4096, 4096);
-    io::write_all(1, b"step: twelve factors");
-    show::changed(once);
-    io::write_all(1, b"step: 860 rows");
+    print!(rt; "step: twelve factors")?;
+    show::changed(rt, once)?;
+    print!(rt; "step: 860 rows")?;
     let s = once.set;
-    show::changed(along_a_line(s, 4096, 4096));
+    show::changed(rt, along_a_line(s, 4096, 4096))
 }
 
 // 8x.
@@ -59,34 +60,42 @@ fn in_the_plane(s: PolyZonotope) -> Changed {
     step::step(s, 2, 2, &constant, &linear, &quadratic, &mut w, &mut e)
 }
 
-fn refusals() {
-    io::write_all(1, b"step: short work");
-    in_work(sets::line(1), 5159, 1, 1, 0, 4096);
-    io::write_all(1, b"step: to no coordinate");
-    in_work(sets::line(1), 5161, 0, 1, 0, 4096);
-    io::write_all(1, b"step: from two coordinates");
-    in_work(sets::line(1), 5161, 1, 2, 0, 4096);
-    io::write_all(1, b"step: of two coordinates");
-    in_work(sets::plane(), 5161, 1, 1, 0, 4096);
-    io::write_all(1, b"step: entry 32768");
-    in_work(sets::line(1), 5161, 1, 1, 0, 32768);
-    io::write_all(1, b"step: entry 32769");
-    in_work(sets::line(1), 5161, 1, 1, 0, 32769);
-    io::write_all(1, b"step: to 1048575 and 1");
-    in_work(sets::line(1), 5161, 1, 1, 1048575, 4096);
-    io::write_all(1, b"step: to 1048576 and 1");
-    in_work(sets::line(1), 5161, 1, 1, 1048576, 4096);
+fn refusals(rt: &impl Print) -> io::Result<()> {
+    print!(rt; "step: short work")?;
+    in_work(rt, sets::line(1), 5159, 1, 1, 0, 4096)?;
+    print!(rt; "step: to no coordinate")?;
+    in_work(rt, sets::line(1), 5161, 0, 1, 0, 4096)?;
+    print!(rt; "step: from two coordinates")?;
+    in_work(rt, sets::line(1), 5161, 1, 2, 0, 4096)?;
+    print!(rt; "step: of two coordinates")?;
+    in_work(rt, sets::plane(), 5161, 1, 1, 0, 4096)?;
+    print!(rt; "step: entry 32768")?;
+    in_work(rt, sets::line(1), 5161, 1, 1, 0, 32768)?;
+    print!(rt; "step: entry 32769")?;
+    in_work(rt, sets::line(1), 5161, 1, 1, 0, 32769)?;
+    print!(rt; "step: to 1048575 and 1")?;
+    in_work(rt, sets::line(1), 5161, 1, 1, 1048575, 4096)?;
+    print!(rt; "step: to 1048576 and 1")?;
+    in_work(rt, sets::line(1), 5161, 1, 1, 1048576, 4096)
 }
 
 // The answer of the step c + ax in work slices that are filled with 7, and what their first, last needed and later places then hold.
-fn in_work(s: PolyZonotope, numbers: usize, m: usize, n: usize, c: i32, a: i32) {
+fn in_work(
+    rt: &impl Print,
+    s: PolyZonotope,
+    numbers: usize,
+    m: usize,
+    n: usize,
+    c: i32,
+    a: i32,
+) -> io::Result<()> {
     let constant = [c];
     let linear = [a];
     let quadratic = [0i32; 1];
     let mut w = [7i64; 5161];
     let mut e = [7u8; 10321];
     if 5161 < numbers {
-        return;
+        return Ok(());
     }
     let r = step::step(
         s,
@@ -99,12 +108,12 @@ fn in_work(s: PolyZonotope, numbers: usize, m: usize, n: usize, c: i32, a: i32) 
         &mut e,
     );
     let o = r.outcome;
-    show::outcome(o);
-    show::number(w[0]);
-    show::number(w[5159]);
-    show::number(w[5160]);
-    show::byte(e[0]);
-    show::byte(e[10319]);
-    show::byte(e[10320]);
-    io::write_all(1, b"\n");
+    show::outcome(rt, o)?;
+    show::number(rt, w[0])?;
+    show::number(rt, w[5159])?;
+    show::number(rt, w[5160])?;
+    show::byte(rt, e[0])?;
+    show::byte(rt, e[10319])?;
+    show::byte(rt, e[10320])?;
+    println!(rt)
 }

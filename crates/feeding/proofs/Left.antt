@@ -12,7 +12,7 @@ use Rattle.model.proofs.Sound.{Sound, after_sound}
 use Rattle.zonotope.specs.Record.{view, pack}
 use Rattle.states.specs.declared.State.{State}
 use Rattle.states.specs.State.{viewed, record_of, left}
-use Rattle.states.specs.Recorded.{means, viewed_record}
+use Rattle.states.proofs.Recorded.{means, viewed_record}
 
 -- a run that is over, before or by this field, keeps its set and its count
 over_keeps : (u : Model.State) (f : List ℕ) → (after u f).over ≡ true → ((after u f).set ≡ u.set) × ((after u f).count ≡ u.count)

@@ -17,9 +17,9 @@ use Rattle.model.proofs.Sound.{Sound, begin_sound, after_sound}
 use Rattle.model.proofs.LastLine.{over_prints_nothing}
 use Rattle.model.proofs.Cutting.{whole_header, some_bytes, first-kept, rest-kept, goes_on, empty_refused, first-line, last_line, from_start}
 use Rattle.states.specs.State.{viewed, left, beginning}
-use Rattle.states.specs.Recorded.{viewed_record}
+use Rattle.states.proofs.Recorded.{viewed_record}
 use Rattle.states.specs.Taken.{taken}
-use Rattle.printing.specs.Brief.{sound_line}
+use Rattle.printing.proofs.Brief.{sound_line}
 use Rattle.feeding.specs.declared.Progress.{Progress}
 use Rattle.streams.specs.Machine.{Turns}
 use Rattle.streams.specs.Laws.{Lawful, Ending}

@@ -24,12 +24,12 @@ use Rattle.states.specs.declared.State.{State}
 use Rattle.states.specs.declared.Answer.{Answer}
 use Rattle.states.specs.State.{viewed, left}
 use Rattle.states.specs.Taken.{taken}
-use Rattle.states.specs.Recorded.{passes, next_fits}
+use Rattle.states.proofs.Recorded.{passes, next_fits}
 use Rattle.advance.specs.declared.Advanced.{Advanced}
 use Rattle.advance.specs.Running.{Running, current_is}
 use Rattle.advance.specs.Advanced.{advanced}
 use Rattle.printing.specs.Line.{answer_line}
-use Rattle.printing.specs.Brief.{sound_sides}
+use Rattle.printing.proofs.Brief.{sound_sides}
 use Rattle.feeding.specs.declared.Progress.{Progress}
 use Rattle.feeding.specs.declared.Fed.{Fed}
 use Rattle.streams.specs.Machine.{Turns}

@@ -1,6 +1,8 @@
 // A run from input that comes in pieces: whole fields are taken from what was read so far, and their lines written into a lent slice. A
 // part of `motion`: a progress is what `begin` gives and `feed` leaves. However an input is cut, what the calls hand over is what is
 // printed for it (specs/Pieces.antt).
+#![tactic(auto)]
+
 ghost use Rattle.std.specs.Prelude.{◌≡◌, false, not, ◌+◌, ◌≤◌, ◌<◌, length};
 ghost use Rattle.model.specs.Run.{cut, first_field};
 ghost use Rattle.text.specs.Lines.{longest_line};

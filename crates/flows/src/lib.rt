@@ -1,6 +1,8 @@
 // A program that reads its input into a buffer, has a machine take the fields that are whole, and writes their text: what it knows between
 // turns, and that it comes to its end. A part of `motion` and `laser`. Definitions in specs/, laws in proofs/; of the code only what moves the
 // bytes that are left.
+#![tactic(auto)]
+
 ghost use Rattle.std.specs.Prelude.{◌≡◌, ◌-◌, ◌≤◌, length, take, drop};
 
 // Moves the bytes from `from` up to `to` to the start.

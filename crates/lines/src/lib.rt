@@ -1,5 +1,7 @@
 // The lines that a run prints, for any caller: each is written at the start of a lent slice that has room for it, and the answer is its
 // length. Where there is no room the answer says so, and the slice stays as it was.
+#![tactic(auto)]
+
 ghost use Rattle.std.specs.Prelude.{◌≡◌, min, length};
 ghost use Rattle.model.specs.Text.{box_line, verdict_line, refusal_line, folded_line, end_line};
 ghost use Rattle.text.specs.Pieces.{firsts};

@@ -1,4 +1,6 @@
 // The line of an answer, written into a lent slice. A part of `feeding`.
+#![tactic(auto)]
+
 ghost use Rattle.std.specs.Prelude.{◌≡◌, ◌+◌, ◌≤◌, length};
 ghost use Rattle.model.specs.Run.{tag as Run·tag};
 ghost use Rattle.text.specs.Appended.{Appended};

@@ -10,7 +10,7 @@ use Rattle.rational.specs.Rational.{ι, ◌*ℚ◌, ◌≤ℚ◌}
 use Rattle.floats.specs.Value.{inside}
 use Rattle.floats.specs.Bits.{endless, value, is_inside}
 use Rattle.floats.specs.Scaled.{factor}
-use Rattle.floats.specs.Compared as Compared
+use Rattle.floats.proofs.Compared as Compared
 use Rattle.floats.specs.Rational as Rational
 
 -- A reading is inside where 4096 times its rational lies between the ends or on one.

@@ -5,7 +5,7 @@ use Prim.Native.Nat.{ℕ, ◌<◌}
 use lib.IntN.{ℤ, pos, ◌*ℤ◌, ◌+ℤ◌, neg_ℤ}
 use lib.Signed.{◌≤ℤ◌, ◌<ℤ◌}
 use Rattle.rational.specs.Rational.{ℚ, ◌over◌, ι, ◌*ℚ◌, ◌+ℚ◌, neg_ℚ, ◌≤ℚ◌, ◌<ℚ◌}
-use Rattle.rational.specs.Pinned as Pinned
+use Rattle.rational.proofs.Pinned as Pinned
 
 -- Every rational is a whole number over a positive denominator.
 pub every : (a : ℚ) → ∥ ((z : ℤ) × (d : ℕ) × (0 < d) × (a ≡ z over d)) ∥₁

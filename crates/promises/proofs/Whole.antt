@@ -6,6 +6,7 @@ use lib.IntN.{ℤ, nat_abs, ◌-ℤ◌, pos, ◌*ℤ◌, neg_ℤ}
 use Rattle.whole.specs.Round.{scale, round, exact, inexact}
 use Rattle.whole.specs.Half.{half, half_size}
 use Rattle.whole.specs.Round as Round
+use Rattle.whole.proofs.Unique as RoundLaws
 use Rattle.whole.specs.Half as Half
 
 -- Rounding is within half a unit of the number.
@@ -19,7 +20,7 @@ round-even = Round.round-even
 -- No other whole number is both.
 pub round_unique : (v q : ℤ) → nat_abs (v -ℤ pos scale *ℤ q) ≤ 8388608
     → (nat_abs (v -ℤ pos scale *ℤ q) ≡ 8388608 → nat_abs q % 2 ≡ 0) → q ≡ round v
-round_unique = Round.round_unique
+round_unique = RoundLaws.round_unique
 
 -- It is exact where the scale divides the number.
 pub round_exact : (v : ℤ) → T (exact v) → pos scale *ℤ round v ≡ v

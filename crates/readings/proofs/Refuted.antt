@@ -8,8 +8,8 @@ use lib.Dec.{lit<}
 use lib.Pow.{pow_pos}
 use lib.IntN.{pos}
 use Rattle.rational.specs.Rational.{ι, 1ℚ, ◌+ℚ◌, ◌*ℚ◌}
-use Rattle.rational.specs.Pinned.{ι-+, ι-*, over_eq}
-use Rattle.rational.specs.Bounds.{within-one}
+use Rattle.rational.proofs.Pinned.{ι-+, ι-*, over_eq}
+use Rattle.rational.proofs.Bounds.{within-one}
 use Rattle.floats.specs.Bits.{value}
 use Rattle.model.specs.Field.{check}
 use Rattle.model.specs.Bytes.{number}

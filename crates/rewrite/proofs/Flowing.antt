@@ -1,6 +1,6 @@
 -- A turn of the program keeps what it knows.
 use mathlib.Core.Path.{◌≡◌, refl, sym, ap, ap₂, ◌∙◌, subst}
-use mathlib.Core.Bool.{Bool, true, false, not, cond, ◌&&◌, ◌||◌, true≢false, and_true, and-false}
+use mathlib.Core.Bool.{Bool, true, false, not, cond, ◌&&◌, ◌||◌, true≢false, and-true, and-false}
 use mathlib.Core.List.{List, [], ◌∷◌, ◌++◌, append-nil}
 use Prim.Native.Nat.{ℕ, ◌+◌, ◌-◌, ◌<◌}
 use native.Mathlib.Omega.{arith}
@@ -21,7 +21,7 @@ use Rattle.console.proofs.Traces.{told-nothing, told_read, told_wrote}
 use Rattle.console.proofs.Streams.{follows_begins, follows_read, follows_wrote, streams}
 use Rattle.rewriting.specs.declared.Held.{Held}
 use Rattle.rewriting.specs.declared.Given.{Given}
-use Rattle.rewriting.specs.Given as goal
+use Rattle.rewriting.specs.Given as Rewriting
 use Rattle.rewriting.specs.Given.{held_bytes, Handed, many_bytes}
 use Rattle.rewriting.specs.Reached.{Reached, remaining}
 use Rattle.rewriting.specs.Done.{Done}
@@ -33,7 +33,7 @@ use Rattle.rewrite.specs.Streamed.{most_reads, Streamed}
 use Rattle.rewrite.specs.Along.{starting_flow, passed, still_left, Along, TurnMade}
 
 -- ---- the start
-pub flow-begun : {h : Held} {i : Input} {o : Output} → h ≡ goal.starting → i ≡ without_input → o ≡ without_output
+pub flow-begun : {h : Held} {i : Input} {o : Output} → h ≡ Rewriting.starting → i ≡ without_input → o ≡ without_output
     → record { held = h; allowed = most_reads; ended = false; unread = false; failed = false; input = i; output = o } ≡ starting_flow
 flow-begun e g h = ap₃ e g h
   where
@@ -190,7 +190,7 @@ module _ (f : Flow) (B : List ℕ) (a : Along f) (on : f.ended ≡ false) (good 
         writes = a.writes ++ (now_written ∷ []);
         made = omega (arith, length-append a.reads (this ∷ []), a.made);
         told = told_wrote
-            (now_told (ap (λ b. eqb r.count 0 && not b) came-well ∙ and_true (eqb r.count 0)) came-well refl) refl went text whole
+            (now_told (ap (λ b. eqb r.count 0 && not b) came-well ∙ and-true (eqb r.count 0)) came-well refl) refl went text whole
             (sent ∙ ap (λ y. wrote f.output y whole) d.text.text);
         rewrites = follows_wrote read_rewrites _ now_written left_then;
       };

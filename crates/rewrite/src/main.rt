@@ -3,6 +3,8 @@
 // was handed over to be written, call by call, is what is left of what was read, call by call, and the program ends. Trusted beyond the
 // proofs: what `console` says of itself; that a read which asks for bytes and gets none, and did not fail, means the end of the input; and
 // that nothing else reads or writes, which the gate asks (.ci/calls).
+#![tactic(auto)]
+
 ghost use Rattle.std.specs.Prelude.{◌≡◌, false, ◌+◌, ◌<◌, ◌≤◌, length};
 ghost use Rattle.rewriting.specs.Reached.{Reached};
 ghost use Rattle.rewriting.specs.Done.{Done};
@@ -31,28 +33,28 @@ struct Flow {
     output: Output,
 }
 
-fn main() {
-    if console::has_arguments() {
-        console::tell(b"usage: rewrite < OLD_RUN_FILE > NEW_RUN_FILE\n");
+fn main(rt: HostRuntime) {
+    if console::has_arguments(&rt) {
+        console::tell(&rt, b"usage: rewrite < OLD_RUN_FILE > NEW_RUN_FILE\n");
         return;
     }
-    let flow = run();
+    let flow = run(&rt);
     if flow.unread {
-        console::tell(b"rewrite: standard input could not be read\n");
+        console::tell(&rt, b"rewrite: standard input could not be read\n");
     }
     if flow.failed {
-        console::tell(b"rewrite: standard output could not be written\n");
+        console::tell(&rt, b"rewrite: standard output could not be written\n");
     }
 }
 
 // Reads and writes until the input has ended, or a read or a write fails. A proved loop has to end, and nothing says that an input does:
 // so the loop counts its reads down, from a number that no run uses up.
-fn run() -> Flow
+fn run(rt: &HostRuntime) -> Flow
     ensures { Streamed result }
 {
     let mut buf = room();
     let mut out = page();
-    let mut flow = begin();
+    let mut flow = begin(rt);
     let mut over = false;
     while !over {
         flow = turn(flow, &mut buf, &mut out);
@@ -61,12 +63,12 @@ fn run() -> Flow
     flow
 }
 
-fn begin() -> Flow
+fn begin(rt: &HostRuntime) -> Flow
     ensures { result ≡ starting_flow }
 {
     let held = rewriting::begin();
-    let input = console::nothing_read();
-    let output = console::nothing_written();
+    let input = console::nothing_read(rt);
+    let output = console::nothing_written(rt);
     Flow {
         held,
         allowed: u64::MAX,

@@ -1,16 +1,15 @@
 -- Bytes that can't decide their field: they are held and nothing is written.
-use mathlib.Core.Path.{◌≡◌, refl, sym, ap, ap₂, ◌∙◌, subst}
+use mathlib.Core.Path.{◌≡◌, refl, sym, ap, ap₂, ◌∙◌}
 use mathlib.Core.Bool.{Bool, true, false, cond, ◌&&◌, ◌||◌, true≢false}
-use mathlib.Core.List.{List, [], ◌∷◌, ◌++◌, append_assoc, append-nil}
-use Prim.Native.Nat.{ℕ, suc, ◌+◌, ◌-◌, ◌≤◌, ◌<◌, min}
+use mathlib.Core.List.{List, [], ◌∷◌, ◌++◌, append_assoc}
+use Prim.Native.Nat.{ℕ, suc, ◌+◌, ◌-◌, ◌≤◌, ◌<◌}
 use native.Mathlib.Numerals.{add-one}
 use native.Mathlib.Decide.{dec_lt}
 use native.Mathlib.Omega.{arith}
 use borrow.Author.Tests.{lt-ltb, le-ltb}
 use lib.Dec.{ltb}
-use lib.ListN.{length, get_or, take, set, length-append, length-take}
+use lib.ListN.{length, get_or, take, set, length-append}
 use lib.Seq.{length-take-le, take_all, take-suc}
-use Rattle.whole.specs.Tests.{or_right}
 use Rattle.model.specs.Run.{field_length}
 use Rattle.model.proofs.Cutting.{header_kept}
 use Rattle.model.proofs.Rewritten.{may_be_empty, may_kept}

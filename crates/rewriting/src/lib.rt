@@ -1,6 +1,8 @@
 // What the program `rewrite` leaves of an input that comes in pieces: each byte goes on at once, but for those of a field that may still
 // turn out to be an empty disturbance, of which at most 28 are held. A part of `rewrite`: what is held is what `begin` gives and `give`
 // leaves. However an input is cut, what the calls hand over is what is left of it (specs/Pieces.antt).
+#![tactic(auto)]
+
 ghost use Rattle.std.specs.Prelude.{◌≡◌, true, ◌+◌, ◌-◌, ◌≤◌, ◌<◌, min, length};
 ghost use Rattle.model.specs.Run.{field_length};
 ghost use Rattle.model.specs.Rewrite.{empty_disturbance};
@@ -20,7 +22,7 @@ const LONGEST_BODY: usize = 25;
 
 // What is held between pieces: the first `count` bytes, of a field that isn't decided yet; and how many bytes of a field that stays are
 // still to come.
-#[derive(Drop)]
+#[derive(Clone, Copy)]
 pub struct Held {
     bytes: [u8; 28],
     count: usize,

@@ -1,6 +1,6 @@
 -- Whether a turn can be made: what that asks, and the tests in the order in which code makes them.
 use mathlib.Core.Path.{◌≡◌, sym, ap, ap₂, ◌∙◌}
-use mathlib.Core.Bool.{Bool, true, false, not, ◌&&◌, ◌||◌, and_true, and-false}
+use mathlib.Core.Bool.{Bool, true, false, not, ◌&&◌, ◌||◌, and-true, and-false}
 use mathlib.Core.List.{List}
 use Prim.Native.Nat.{ℕ, ◌≤◌, ◌<◌}
 use borrow.Author.Tests.{not-true, lt-ltb, le-ltb, ltb-false}
@@ -40,7 +40,7 @@ module _ (longest : ℕ) (done ended : Bool) (room : ℕ) (rest : List ℕ) wher
       pub ready_by : ready longest done ended room rest ≡ ended || not (cut rest)
       unfolding ready
       ready_by =
-          ap₂ (λ x y. not x && ((ended || not (cut rest)) && not y)) d (le-ltb room longest h) ∙ and_true (ended || not (cut rest))
+          ap₂ (λ x y. not x && ((ended || not (cut rest)) && not y)) d (le-ltb room longest h) ∙ and-true (ended || not (cut rest))
 
       pub ready_end : ended ≡ true → true ≡ ready longest done ended room rest
       ready_end e = sym (ready_by ∙ ap (◌|| not (cut rest)) e)

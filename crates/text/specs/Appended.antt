@@ -1,5 +1,5 @@
 -- A piece of text put into a buffer.
-use Rattle.std.specs.Prelude.{◌≡◌, refl, List, [], ◌++◌, ℕ, ◌+◌, ◌-◌, ◌≤◌, ◌<◌, length, get_or, take, drop, set}
+use Rattle.std.specs.Prelude.{◌≡◌, refl, List, [], ◌++◌, ℕ, ◌+◌, ◌≤◌, ◌<◌, length, get_or, take, drop, set}
 use Rattle.std.proofs.Common.{sym, ap, ap₂, ◌∙◌, subst, append_assoc, append-nil, add_assoc, add-one, arith, length-append, take-append-drop, drop-drop}
 use Rattle.std.proofs.Math.Seq.{paste, paste-zero, paste-suc, take-length}
 use Rattle.std.proofs.lemmas.List.Edits.{take-paste, drop-paste}

@@ -1,73 +1,75 @@
--- The digits that the kit's `io::decimal` writes are those of `decimal`.
-use Rattle.std.specs.Prelude.{◌≡◌, refl, List, [], ◌∷◌, ◌++◌, ℕ, zero, suc, ◌+◌, ◌-◌, ◌*◌, ◌/◌, ◌%◌, ◌^◌, ◌≤◌, ◌<◌, length, take}
-use Rattle.std.proofs.Common.{sym, ap, ◌∙◌, subst, mod-eq_of_lt, pow-suc, div-lt_iff_lt-mul, le-div_iff_mul-le, arith, lt-ltb}
-use Rattle.std.proofs.Math.Nat.{pow-succ', pow-le-pow_right}
-use Rattle.std.proofs.Math.Decide.{dec_lt}
-use Rattle.io.specs.Digits.{hex_digit_ascii, last_digits, IsDigitCount}
-use Rattle.model.specs.Text.{digit, decimal}
+-- The digits of a number, put into a buffer from its last one on.
+use Rattle.std.specs.Prelude.{◌≡◌, List, [], ◌∷◌, ◌++◌, ℕ, zero, suc, ◌+◌, ◌-◌, ◌*◌, ◌/◌, ◌%◌, ◌^◌, ◌≤◌, ◌<◌, length, drop, set}
+use Rattle.std.proofs.Common.{sym, ap, ◌∙◌, subst, append_assoc, pow-suc, div-lt_iff_lt-mul, arith, length-append, lt-ltb, le-ltb}
+use Rattle.std.proofs.lemmas.List.{drop-set}
+use Rattle.model.specs.Text.{digit, decimal_within, decimal}
 use Rattle.model.proofs.Numerals.{by_digits}
 use Rattle.text.specs.Appended.{Appended, named}
 
-glyph_digit : (d : ℕ) → d < 10 → hex_digit_ascii d ≡ digit d
-glyph_digit d h = rw (lt-ltb d 10 h)
-
-ten_power : (k : ℕ) → 0 < 10 ^ k
-ten_power zero = omega arith
-ten_power (suc k) = subst (λ (x : ℕ). 0 < x) (sym (pow-succ' 10 k)) (omega (arith, ten_power k))
-
--- one of k + 2 digits is at least ten to the power k + 1
-at_least : (k n : ℕ) → IsDigitCount 10 1 n (suc (suc k)) → 10 * 10 ^ k ≤ n
-at_least k n f =
-    let e : suc (suc k) - 1 ≡ suc k = omega arith in
-    subst (λ (x : ℕ). x ≤ n) (pow-succ' 10 k) (subst (λ (x : ℕ). 10 ^ x ≤ n) e (f.2 (omega arith)))
-
--- its tenth has k + 1 digits
-tenth : (k n : ℕ) → IsDigitCount 10 1 n (suc (suc k)) → IsDigitCount 10 1 (n / 10) (suc k)
-tenth k n f =
-    let big = at_least k n f in
-    let less : n < 10 ^ suc k * 10 = subst (λ (x : ℕ). n < x) (pow-suc 10 (suc k)) f.1 in
-    let e : suc k - 1 ≡ k = omega arith in
-    let ten : 0 < 10 = omega arith in (
-      omega arith,
-      (div-lt_iff_lt-mul {k = 10} ten).1 less,
-      (λ h. subst (λ (x : ℕ). 10 ^ x ≤ n / 10) (sym e) ((le-div_iff_mul-le {k = 10} ten).1 (omega arith))),
-    )
-
--- one below 10 takes one digit
-one : (n k : ℕ) → n < 10 → IsDigitCount 10 1 n k → k ≡ 1
-one n zero h f = absurd (omega (arith, f.0))
-one n (suc zero) h f = refl
-one n (suc (suc k)) h f = absurd (omega (arith, at_least k n f, ten_power k))
-
--- ---- the kit's digits
-pub digits_decimal : (n k : ℕ) → IsDigitCount 10 1 n k → last_digits 10 k n ≡ decimal n
-digits_decimal = by_digits (λ n ds. (k : ℕ) → IsDigitCount 10 1 n k → last_digits 10 k n ≡ ds) alone more
+-- however many digits a number is allowed, where it doesn't have more
+within : (n most : ℕ) → n < most → decimal_within most n ≡ decimal n
+unfolding decimal_within
+within n = by_digits (λ k ds. (most : ℕ) → k < most → decimal_within most k ≡ ds) alone more n
   where
-    alone : (n : ℕ) → n < 10 → (k : ℕ) → IsDigitCount 10 1 n k → last_digits 10 k n ≡ digit n ∷ []
-    alone n small k f =
-        ap (λ (j : ℕ). last_digits 10 j n) (one n k small f)
-        ∙ ap (λ (d : ℕ). hex_digit_ascii d ∷ []) (mod-eq_of_lt small) ∙ ap (λ (d : ℕ). d ∷ []) (glyph_digit n small)
+    alone : (k : ℕ) → k < 10 → (most : ℕ) → k < most → decimal_within most k ≡ digit k ∷ []
+    alone k small zero h = absurd (omega arith)
+    alone k small (suc most) h = rw (lt-ltb k 10 small)
 
-    more : (n : ℕ) (ds : List ℕ) → 10 ≤ n → ((k : ℕ) → IsDigitCount 10 1 (n / 10) k → last_digits 10 k (n / 10) ≡ ds)
-        → (k : ℕ) → IsDigitCount 10 1 n k → last_digits 10 k n ≡ ds ++ (digit (n % 10) ∷ [])
-    more n ds big e zero f = absurd (omega (arith, f.0))
-    more n ds big e (suc zero) f = absurd (omega (arith, f.1))
-    more n ds big e (suc (suc k)) f =
-        ap (λ (l : List ℕ). l ++ (hex_digit_ascii (n % 10) ∷ [])) (e (suc k) (tenth k n f))
-        ∙ ap (λ (d : ℕ). ds ++ (d ∷ [])) (glyph_digit (n % 10) (omega arith))
+    more : (k : ℕ) (ds : List ℕ) → 10 ≤ k → ((most : ℕ) → k / 10 < most → decimal_within most (k / 10) ≡ ds)
+        → (most : ℕ) → k < most → decimal_within most k ≡ ds ++ (digit (k % 10) ∷ [])
+    more k ds big tenth zero h = absurd (omega arith)
+    more k ds big tenth (suc most) h = rw (le-ltb k 10 big) (ap (λ (l : List ℕ). l ++ (digit (k % 10) ∷ [])) (tenth most (omega arith)))
 
--- a number of 64 bits has at most 20 digits
-pub few_digits : (n k : ℕ) → n < 2 ^ 64 → IsDigitCount 10 1 n k → k ≤ 20
-few_digits n k h f = go (dec_lt 20 k)
+-- a number of one digit
+pub one_digit : (n : ℕ) → n < 10 → decimal n ≡ digit n ∷ []
+unfolding decimal decimal_within
+one_digit n small = rw (lt-ltb n 10 small)
+
+-- a tenth of it, and one digit more
+pub more_digits : (n : ℕ) → 10 ≤ n → decimal n ≡ decimal (n / 10) ++ (digit (n % 10) ∷ [])
+unfolding decimal decimal_within
+more_digits n big = rw (le-ltb n 10 big) (ap (λ (l : List ℕ). l ++ (digit (n % 10) ∷ [])) (within (n / 10) n (omega arith)))
+
+-- ---- a number of 64 bits has at most 20 digits
+below : (n k : ℕ) → n < 10 ^ suc k → length (decimal n) ≤ suc k
+below = by_digits (λ n ds. (k : ℕ) → n < 10 ^ suc k → length ds ≤ suc k) (λ n small k h. omega arith) more
   where
-    go : Dec (20 < k) → k ≤ 20
-    go (no g) = omega arith
-    go (yes g) =
-        let big : 10 ^ (k - 1) ≤ n = f.2 (omega arith) in
-        let more : 10 ^ 20 ≤ 10 ^ (k - 1) = pow-le-pow_right {n = 10} (omega arith) {i = 20} {j = k - 1} (omega arith) in
-        absurd (omega arith)
+    more : (n : ℕ) (ds : List ℕ) → 10 ≤ n → ((k : ℕ) → n / 10 < 10 ^ suc k → length ds ≤ suc k)
+        → (k : ℕ) → n < 10 ^ suc k → length (ds ++ (digit (n % 10) ∷ [])) ≤ suc k
+    more n ds big tenth zero h = absurd (omega arith)
+    more n ds big tenth (suc k) h =
+        let less : n < 10 ^ suc k * 10 = subst (λ (x : ℕ). n < x) (pow-suc 10 (suc k)) h in
+        let ten : 0 < 10 = omega arith in
+        omega (arith, tenth k ((div-lt_iff_lt-mul {k = 10} ten).1 less), length-append ds (digit (n % 10) ∷ []))
 
--- ---- a number, by the digits that stand in a buffer of 20
-pub numbered : {a b : List ℕ} {i r : ℕ} (k n : ℕ) (o : List ℕ) → Appended (length (take k o)) a b i r (take k o) → length (take k o) ≤ 20
-    → IsDigitCount 10 1 n k → take k o ≡ last_digits 10 k n → Appended 20 a b i r (decimal n)
-numbered k n o x h f e = named h (e ∙ digits_decimal n k f) x
+pub few_digits : (n : ℕ) → n < 2 ^ 64 → length (decimal n) ≤ 20
+few_digits n h = below n 19 (omega arith)
+
+-- and one at least
+pub has_digit : (n : ℕ) → 0 < length (decimal n)
+has_digit = by_digits (λ n ds. 0 < length ds) (λ n small. omega arith) (λ n ds big tenth. omega (arith, length-append ds (digit (n % 10) ∷ [])))
+
+-- ---- one digit more in front of those that stand in the buffer up to its end
+pub digit_put : (b : List ℕ) (at k n : ℕ) → 10 ≤ k → 0 < at → at ≤ length b → decimal k ++ drop at b ≡ decimal n
+    → decimal (k / 10) ++ drop (at - 1) (set b (at - 1) (digit (k % 10))) ≡ decimal n
+digit_put b at k n big some room so_far =
+    let e : at - 1 + 1 ≡ at = omega arith in
+    ap (decimal (k / 10) ++◌) (drop-set b (at - 1) (digit (k % 10)) (omega arith))
+    ∙ ap (λ (j : ℕ). decimal (k / 10) ++ (digit (k % 10) ∷ drop j b)) e ∙ sym (append_assoc (decimal (k / 10)) (digit (k % 10) ∷ []) (drop at b))
+    ∙ ap (λ (l : List ℕ). l ++ drop at b) (sym (more_digits k big)) ∙ so_far
+
+-- the first one
+pub first_put : (b : List ℕ) (at k n : ℕ) → k < 10 → 0 < at → at ≤ length b → decimal k ++ drop at b ≡ decimal n
+    → drop (at - 1) (set b (at - 1) (digit k)) ≡ decimal n
+first_put b at k n small some room so_far =
+    let e : at - 1 + 1 ≡ at = omega arith in
+    drop-set b (at - 1) (digit k) (omega arith) ∙ ap (λ (j : ℕ). digit k ∷ drop j b) e
+    ∙ ap (λ (l : List ℕ). l ++ drop at b) (sym (one_digit k small)) ∙ so_far
+
+-- it needs less room
+pub shorter : (k : ℕ) → 10 ≤ k → length (decimal k) ≡ length (decimal (k / 10)) + 1
+shorter k big = ap length (more_digits k big) ∙ length-append (decimal (k / 10)) (digit (k % 10) ∷ [])
+
+-- ---- a number, by its digits
+pub numbered : {a b ds : List ℕ} {i r n : ℕ} → Appended (length ds) a b i r ds → n < 2 ^ 64 → ds ≡ decimal n → Appended 20 a b i r (decimal n)
+numbered {n = n} x h e = named (omega (arith, few_digits n h, ap length e)) e x

@@ -1,7 +1,7 @@
 -- The pieces of which lines are made.
 use Rattle.std.specs.Prelude.{◌≡◌, refl, Bool, true, false, List, [], ◌∷◌, ◌++◌, map, ℕ, zero, suc, ◌+◌, ◌*◌, ◌<◌, ◌≤◌, ℤ, pos, negsuc, nat_abs, length, get_or, take}
 use Rattle.std.proofs.Common.{sym, ap, ap₂, ◌∙◌, subst, true≢false, append_assoc, append-nil, add-one, arith, ltb-true, take-suc, take_all}
-use Rattle.std.proofs.lemmas.List.{map_append}
+use Rattle.std.proofs.lemmas.List.{map-append}
 use Rattle.std.specs.Int.Signed.{lt_z}
 use Rattle.whole.specs.Tab.{tab}
 use Rattle.model.specs.Set.{at}
@@ -94,7 +94,7 @@ items_more : (ns : List ℕ) (i : ℕ) → i < length ns → items i ns ++ item 
 items_more ns i h =
     ap (items i ns ++◌) (sym (one-item (get_or ns i 0)))
     ∙ sym (ap spaced (ap (λ k. map decimal (take k ns)) (add-one i) ∙ ap (map decimal) (take-suc ns i 0 h)
-    ∙ map_append decimal (take i ns) (get_or ns i 0 ∷ [])) ∙ spaced_append (map decimal (take i ns)) (decimal (get_or ns i 0) ∷ []))
+    ∙ map-append decimal (take i ns) (get_or ns i 0 ∷ [])) ∙ spaced_append (map decimal (take i ns)) (decimal (get_or ns i 0) ∷ []))
 
 pub items_put : {a b c : List ℕ} {p q r : ℕ} (ns : List ℕ) (i : ℕ) → i < length ns → Appended (21 * i) a b p q (items i ns)
     → Appended 21 b c q r (item (get_or ns i 0)) → Appended (21 * (i + 1)) a c p r (items (i + 1) ns)

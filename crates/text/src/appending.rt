@@ -1,6 +1,6 @@
 // The pieces of a line: bytes and decimal numbers, put into a lent slice one after the other.
 // Each function writes from the place `at` on and answers the place after its piece.
-ghost use Rattle.std.specs.Prelude.{[], ◌∷◌, map, ◌+◌, ◌≤◌, length};
+ghost use Rattle.std.specs.Prelude.{◌≡◌, [], ◌∷◌, map, ◌+◌, ◌≤◌, length, drop};
 ghost use Rattle.model.specs.Text.{decimal, signed_decimal, following, verdict_word, ends};
 ghost use Rattle.text.specs.Appended.{Appended};
 ghost use Rattle.text.specs.Pieces.{item, signed_item, firsts, spaced};
@@ -24,8 +24,26 @@ pub fn append_number(out: &mut [u8], at: usize, n: u64) -> usize
     ensures { Appended 20 out.old out.new at result (decimal n) }
 {
     let mut digits = [0u8; 20];
-    let k = io::decimal(n, &mut digits);
-    append(out, at, &digits[..k])
+    let from = put_digits(n, &mut digits);
+    append(out, at, &digits[from..])
+}
+
+// Puts the digits of the number n at the end of the buffer; the answer is the place of the first.
+fn put_digits(n: u64, digits: &mut [u8]) -> usize
+    requires { length digits.old ≡ 20 }
+    ensures start { result ≤ 20 }
+    ensures digits { drop result digits.new ≡ decimal n }
+{
+    let mut at = 20;
+    let mut rest = n;
+    while rest >= 10 {
+        at -= 1;
+        digits[at] = b'0' + (rest % 10) as u8;
+        rest /= 10;
+    }
+    at -= 1;
+    digits[at] = b'0' + rest as u8;
+    at
 }
 
 // The number z, a negative one after a minus sign.

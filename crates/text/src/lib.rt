@@ -1,5 +1,7 @@
 // The lines that a run prints, each written into a lent slice from the place `at` on. The slice has room for the longest line, for the
 // last two lines for the longest of their kind; the answer is the place after the line.
+#![tactic(auto)]
+
 ghost use Rattle.std.specs.Prelude.{◌++◌, ◌+◌, ◌≤◌, length};
 ghost use Rattle.model.specs.Text.{box_line, verdict_line, refusal_line, folded_line, end_line};
 ghost use Rattle.text.specs.Appended.{Appended};

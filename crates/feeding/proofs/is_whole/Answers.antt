@@ -1,0 +1,7 @@
+-- `feeding::is_whole` meets its contract.
+use mathlib.Core.Path.{◌∙◌}
+use Rattle.feeding.proofs.First.{cut-first}
+use Rattle.feeding.proofs.is_whole.Goals as goal
+
+pub returns : goal.returns
+returns c = let h = c.read-h.ensures in (h.whole ∙ cut-first _, h.left)

@@ -1,0 +1,12 @@
+-- `lines::box_line` meets its contract: the line in a buffer of its own, then put.
+use Rattle.lines.specs.Put.{counted, buffered}
+use Rattle.lines.proofs.box_line.Goals as goal
+
+pub slice_bounds-put-end : goal.slice_bounds-put-end
+slice_bounds-put-end c = counted c.box_line-k.ensures
+
+pub returns : goal.returns
+returns c =
+    let put = c in
+    let line = put in
+    rw line.at_most_six.ensures at (buffered line.box_line-k.ensures put.put.ensures)

@@ -1,0 +1,2 @@
+-- in a run it is that of the definitions
+pub mod Brief

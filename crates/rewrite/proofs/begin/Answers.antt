@@ -1,0 +1,6 @@
+-- `rewrite::begin` meets its contract.
+use Rattle.rewrite.proofs.Flowing.{flow-begun}
+use Rattle.rewrite.proofs.begin.Goals as goal
+
+pub returns : goal.returns
+returns c = flow-begun c.begin-held.ensures c.nothing_read-input.ensures c.nothing_written-output.ensures
