@@ -4,6 +4,7 @@ use Rattle.std.proofs.Math.Option.{Option, none, some}
 use Rattle.model.specs.Field.{Kind, refused, meaning, describe}
 use Rattle.model.specs.Run as Model
 use Rattle.model.specs.Run.{tag, kind_of, current, refusal, accepted_by, refused_at}
+use Rattle.zonotope.specs.Record.{view}
 use Rattle.stepping.specs.Work.{worked}
 use Rattle.fields.specs.Refusal.{body_refusal}
 pub use Rattle.fields.specs.Effect.{Used}
@@ -16,6 +17,10 @@ use Rattle.advance.specs.declared.Advanced.{Advanced}
 -- whether a step was worked out: it was accepted, or refused for its result
 abbrev pub step_worked : Model.State → List ℕ → Bool
 step_worked u f = cond u.over false ((describe (kind_of (tag f))).works && worked (refusal u f))
+
+-- the same of a field of the kind k with the body b, given to the set of a state's record
+abbrev pub field_works : Kind → List ℕ → State → Bool
+field_works k b st = (describe k).works && worked (body_refusal k b st.next (view st.set))
 
 -- the field f, which begins at this place
 unfoldable pub advanced : ℕ → State → List ℕ → Advanced

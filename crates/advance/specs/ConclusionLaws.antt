@@ -1,5 +1,5 @@
 -- The six places of an answer's ends, and what is answered by what a field comes to.
-use Rattle.std.specs.Prelude.{◌≡◌, List, Bool, true, false, cond, ℕ, ◌+◌, ◌<◌, ltb, length, ℤ, pos}
+use Rattle.std.specs.Prelude.{◌≡◌, List, Bool, false, cond, ℕ, ◌+◌, ◌<◌, ltb, length, ℤ, pos}
 use Rattle.std.proofs.Math.Path.{sym}
 use Rattle.std.proofs.Common.{◌∙◌, ap, arith, lt-ltb, le-ltb}
 use Rattle.std.proofs.Math.Decide.{dec_lt}
@@ -9,6 +9,9 @@ use Rattle.model.specs.Operations.{low, high, box}
 use Rattle.verdicts.specs.Six.{six}
 use Rattle.zonotope.specs.declared.PolyZonotope.{PolyZonotope}
 use Rattle.zonotope.specs.Record.{view}
+use Rattle.model.specs.Field.{describe}
+use Rattle.fields.specs.declared.Kind.{Kind}
+use Rattle.fields.specs.Kinds.{meant}
 use Rattle.fields.specs.declared.Found.{Found}
 use Rattle.fields.specs.declared.Effect.{Effect}
 use Rattle.states.specs.declared.State.{State}
@@ -17,7 +20,7 @@ use Rattle.states.specs.declared.Outcome.TheVariants.{Inside}
 use Rattle.states.specs.Answer.{parts}
 use Rattle.advance.specs.declared.Advanced.{Advanced}
 use Rattle.advance.specs.Totals.{folded_from, grown}
-use Rattle.advance.specs.Concluded.{left_by, concluded_by, concluded, accepts}
+use Rattle.advance.specs.Concluded.{left_by, accepted_so}
 
 -- the first n are a table's, the others 0
 six_table : (n : ℕ) (f : ℕ → ℤ) → six n f ≡ tab 6 (at (tab n f))
@@ -61,19 +64,17 @@ box-answer field bytes s e f = λ i. record {
 }
 
 -- the same answer and state
-pub advanced_by : {a b : Answer} {x y : State} (w : Bool) → a ≡ b → x ≡ y
-    → ◌≡◌ {A = Advanced} (record { answer = a; state = x; worked = w }) (record { answer = b; state = y; worked = w })
-advanced_by w e f = λ i. record { answer = e i; state = f i; worked = w }
+pub advanced_by : {a b : Answer} {x y : State} {w v : Bool} → a ≡ b → x ≡ y → w ≡ v
+    → ◌≡◌ {A = Advanced} (record { answer = a; state = x; worked = w }) (record { answer = b; state = y; worked = v })
+advanced_by e f g = λ i. record { answer = e i; state = f i; worked = g i }
 
 -- a state with these totals
-pub left_is : (st : State) (m : Effect) {t : List ℕ} → t ≡ grown st.folded (folded_from m.anew st) m.set.radii.folded
-    → ◌≡◌ {A = State} (record { set = m.set; next = m.next; count = st.count + 1; over = false; folded = t }) (left_by st m)
-left_is st m e = ap (λ (t : List ℕ). record { set = m.set; next = m.next; count = st.count + 1; over = false; folded = t }) e
+pub left_is : (st : State) (k : Kind) (m : Effect) {t : List ℕ}
+    → t ≡ grown st.folded (folded_from (describe (meant k)).anew st) m.set.radii.folded
+    → ◌≡◌ {A = State} (record { set = m.set; next = m.next; count = st.count + 1; over = false; folded = t }) (left_by st k m)
+left_is st k m e = ap (λ (t : List ℕ). record { set = m.set; next = m.next; count = st.count + 1; over = false; folded = t }) e
 
--- by what a field comes to
-pub concluded_as : (st : State) (place bytes : ℕ) (m : Effect) {f : Found} → m.found ≡ f
-    → concluded_by f st place bytes m ≡ concluded st place bytes m
-concluded_as st place bytes m e = ap (λ (f : Found). concluded_by f st place bytes m) (sym e)
-
-pub accepts_as : (m : Effect) {f : Found} → m.found ≡ f → accepts f ≡ true → accepts m.found ≡ true
-accepts_as m e a = ap accepts e ∙ a
+-- by what an accepted field comes to
+pub accepted_as_found : (st : State) (bytes : ℕ) (k : Kind) (m : Effect) {f : Found} → m.found ≡ f
+    → accepted_so f st bytes k m ≡ accepted_so m.found st bytes k m
+accepted_as_found st bytes k m e = ap (λ (f : Found). accepted_so f st bytes k m) (sym e)

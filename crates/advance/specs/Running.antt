@@ -2,11 +2,14 @@
 -- its totals of what folding added are those of a run.
 use Rattle.std.specs.Prelude.{◌≡◌, false, ℕ, ◌<◌, ◌≤◌, length, get_or}
 use Rattle.std.proofs.Common.{arith, ne_eqb}
-use Rattle.model.specs.Limits.{max_dimension, last_tag, max_total}
+use Rattle.model.specs.Limits.{max_dimension, max_total}
 use Rattle.model.specs.Run.{current}
 use Rattle.model.specs.Library.{bad_next}
+use Rattle.model.proofs.ByKind.{starts}
 use Rattle.zonotope.specs.Record.{view}
 use Rattle.answers.specs.Accepted.{AcceptedRecord}
+use Rattle.fields.specs.declared.Kind.{Kind}
+use Rattle.fields.specs.Kinds.{meant}
 use Rattle.states.specs.declared.State.{State}
 use Rattle.states.specs.State.{viewed}
 
@@ -16,12 +19,11 @@ pub record Running (st : State) : Type 0 where
   pub six_totals : length st.folded ≡ max_dimension
   pub totals : (i : ℕ) → get_or st.folded i 0 ≤ max_total
 
--- a field with this tag may follow: the first is a start set, no later one is, and there are not too many
-pub record Ready (st : State) (t : ℕ) : Type 0 where
+-- a field of this kind may follow: the first is a start set, no later one is, and there are not too many
+pub record Ready (st : State) (k : Kind) : Type 0 where
   pub running : Running st
   pub few : st.count ≤ 4096
-  pub there : (t ≡ 1 → ⊥) → 0 < st.count
-  pub known : (1 ≤ t) × (t ≤ last_tag)
+  pub there : starts (meant k) ≡ false → 0 < st.count
 
 -- the current set, where there is one
 pub current_is : (st : State) → 0 < st.count → current (viewed st) ≡ view st.set

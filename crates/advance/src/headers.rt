@@ -1,16 +1,15 @@
 // What is known of a field before its body is read.
-ghost use Rattle.std.specs.Prelude.{◌≡◌, not};
-ghost use Rattle.model.specs.Run.{first_of, first_field, misplaced, cut};
-ghost use Rattle.zonotope.specs.Answer.{examined};
-ghost use Rattle.advance.specs.Header.{HeaderOf, of_header, misplaced_tag};
+ghost use Rattle.std.specs.Prelude.{◌≡◌, not, eqb};
+ghost use Rattle.model.specs.Run.{first_field, cut};
+ghost use Rattle.fields.specs.Kinds.{tag_of};
+ghost use Rattle.advance.specs.Header.{HeaderOf, Headed, Placed};
 
 use crate::Header;
-use zonotope::Examined;
+use fields::Kind;
+use zonotope::Cause;
 
-// Document 01's number of the last field that may follow the start set, and the last tag.
+// Document 01's number of the last field that may follow the start set.
 const LAST_FIELD: usize = 4096;
-
-const LAST_TAG: u8 = 9;
 
 // The header of the first field.
 pub fn read(rest: &[u8]) -> Header
@@ -36,32 +35,38 @@ pub fn read(rest: &[u8]) -> Header
     }
 }
 
-// The first cause that refuses the first field before its body is read: 12, 2, 1.
-pub fn of_header(count: usize, rest: &[u8], whole: bool) -> Examined
+// The kind of the first field, or the first cause that refuses it before its body is read: 12, 2, 1.
+pub fn kind(count: usize, rest: &[u8], whole: bool) -> Result<Kind, Cause>
     requires { whole ≡ not (cut (first_field rest.now)) }
-    ensures { result ≡ examined (first_of (of_header count (first_field rest.now))) }
+    ensures { Headed count rest.now result }
 {
     if LAST_FIELD < count {
-        return Examined::Refused(12);
+        return Err(Cause::TooManyFields);
     }
-    if rest.len() == 0 {
-        return Examined::Refused(1);
+    if rest.is_empty() {
+        return Err(Cause::Ended);
     }
-    if misplaced(count, rest[0]) {
-        return Examined::Refused(2);
-    }
+    let kind = placed(count, rest[0])?;
     if whole {
-        return Examined::Accepted;
+        return Ok(kind);
     }
-    Examined::Refused(1)
+    Err(Cause::Ended)
 }
 
-// Whether a tag can't stand here: the first field is a start set, and no later one is.
-fn misplaced(count: usize, t: u8) -> bool
-    ensures { result ≡ misplaced_tag count t }
+// The kind with this tag, where it may stand here: the first field is a start set, and no later one is.
+fn placed(count: usize, tag: u8) -> Result<Kind, Cause>
+    ensures { Placed count tag result }
 {
-    if count == 0 {
-        return t != 1;
+    let kind = Kind::try_from(tag)?;
+    if starts(kind) != (count == 0) {
+        return Err(Cause::Tag);
     }
-    (t < 2) | (LAST_TAG < t)
+    Ok(kind)
+}
+
+// Whether it is the kind of a first field.
+fn starts(kind: Kind) -> bool
+    ensures { result ≡ eqb (tag_of kind) 1 }
+{
+    matches!(kind, Kind::Start)
 }

@@ -1,55 +1,37 @@
 // A field by its kind: one line each.
 ghost use Rattle.std.specs.Prelude.{◌≡◌, ◌≤◌, pos, length};
-ghost use Rattle.model.specs.Run.{kind_of};
 ghost use Rattle.stepping.specs.Work.{work_numbers, work_exponents};
+ghost use Rattle.fields.specs.Kinds.{meant};
 ghost use Rattle.fields.specs.Effect.{effect, Used};
 ghost use Rattle.advance.specs.Running.{Ready};
+ghost use Rattle.advance.specs.Advanced.{field_works};
 
-use fields::Effect;
+use fields::{Effect, Kind};
 use states::State;
+use zonotope::Cause;
 
-// What a field with this tag does to the set.
-pub fn by_tag(st: State, t: u8, body: &[u8], w: &mut [i64], e: &mut [u8]) -> Effect
-    requires { Ready st t × (work_numbers ≤ length w.old) × (work_exponents ≤ length e.old) }
-    ensures value { result ≡ effect (kind_of t) body.now st.next st.set }
-    ensures numbers { Used result.worked (pos 0) work_numbers w.old w.new }
-    ensures exponents { Used result.worked 0 work_exponents e.old e.new }
+// What a field of this kind does to the set.
+pub fn effect(
+    kind: Kind,
+    st: State,
+    body: &[u8],
+    w: &mut [i64],
+    e: &mut [u8],
+) -> Result<Effect, Cause>
+    requires { Ready st kind × (work_numbers ≤ length w.old) × (work_exponents ≤ length e.old) }
+    ensures value { result ≡ effect (meant kind) body.now st.next st.set }
+    ensures numbers { Used (field_works (meant kind) body.now st) (pos 0) work_numbers w.old w.new }
+    ensures exponents { Used (field_works (meant kind) body.now st) 0 work_exponents e.old e.new }
 {
-    let s = st.set;
-    let next = st.next;
-    if t == 2 {
-        return fields::steps::effect(s, next, false, body, w, e);
+    match kind {
+        Kind::Start => fields::starts::effect(st.next, body),
+        Kind::Step => fields::steps::effect(st.set, st.next, body, w, e),
+        Kind::Disturbance => fields::disturbances::effect(st.set, st.next, body),
+        Kind::IndependentSum => fields::independent_sums::effect(st.set, st.next, body),
+        Kind::TiedSum => fields::tied_sums::effect(st.set, st.next, body),
+        Kind::Reduction => fields::reductions::effect(st.set, st.next, body),
+        Kind::Check => fields::checks::effect(st.set, st.next, body),
+        Kind::Hull => fields::hulls::effect(st.set, st.next, body),
+        Kind::RangedStep => fields::ranged_steps::effect(st.set, st.next, body, w, e),
     }
-    if t == 9 {
-        return fields::steps::effect(s, next, true, body, w, e);
-    }
-    without_work(st, t, body)
-}
-
-// The kinds that use no work slice.
-fn without_work(st: State, t: u8, body: &[u8]) -> Effect
-    requires { Ready st t × (t ≡ 2 → ⊥) × (t ≡ 9 → ⊥) }
-    ensures { result ≡ effect (kind_of t) body.now st.next st.set }
-{
-    let s = st.set;
-    let next = st.next;
-    if t == 1 {
-        return fields::starts::effect(s, next, body);
-    }
-    if t == 3 {
-        return fields::disturbances::effect(s, next, body);
-    }
-    if t == 4 {
-        return fields::independent_sums::effect(s, next, body);
-    }
-    if t == 5 {
-        return fields::tied_sums::effect(s, next, body);
-    }
-    if t == 6 {
-        return fields::reductions::effect(s, next, body);
-    }
-    if t == 7 {
-        return fields::checks::effect(s, next, body);
-    }
-    fields::hulls::effect(s, next, body)
 }

@@ -3,14 +3,16 @@
 
 ghost use Rattle.std.specs.Prelude.{◌≡◌, false, ◌≤◌, pos, length};
 ghost use Rattle.std.proofs.Math.Option.{none};
+ghost use Rattle.model.specs.Bytes.{byte};
 ghost use Rattle.model.specs.Run.{first_of, first_field};
 ghost use Rattle.stepping.specs.Work.{work_numbers, work_exponents};
+ghost use Rattle.fields.specs.Kinds.{tag_of};
 ghost use Rattle.advance.specs.Header.{of_header};
 ghost use Rattle.advance.specs.Running.{Running};
 ghost use Rattle.advance.specs.Advanced.{advanced, Used};
 
+use fields::Kind;
 use states::{Answer, State};
-use zonotope::Examined;
 
 mod conclusion;
 pub mod headers;
@@ -44,16 +46,16 @@ pub fn advance(st: State, place: usize, rest: &[u8], w: &mut [i64], e: &mut [u8]
     if st.over {
         return conclusion::skipped(st, h.bytes);
     }
-    let o = headers::of_header(st.count, rest, h.whole);
-    match o {
-        Examined::Refused(number) => conclusion::refused(st, place, h.bytes, number, false),
-        Examined::Accepted => whole(st, place, rest, h.bytes, w, e),
+    match headers::kind(st.count, rest, h.whole) {
+        Ok(kind) => whole(st, kind, place, rest, h.bytes, w, e),
+        Err(cause) => conclusion::refused(st, place, h.bytes, cause, false),
     }
 }
 
-// A field whose header passed, in a run that isn't over.
+// A field of this kind whose header passed, in a run that isn't over.
 fn whole(
     st: State,
+    kind: Kind,
     place: usize,
     rest: &[u8],
     bytes: usize,
@@ -61,12 +63,12 @@ fn whole(
     e: &mut [u8],
 ) -> Advanced
     requires { Running st × (st.over ≡ false) × (first_of (of_header st.count (first_field rest.now)) ≡ none)
-        × (bytes ≡ length (first_field rest.now)) × (work_numbers ≤ length w.old) × (work_exponents ≤ length e.old) }
+        × (tag_of kind ≡ byte rest.now 0) × (bytes ≡ length (first_field rest.now))
+        × (work_numbers ≤ length w.old) × (work_exponents ≤ length e.old) }
     ensures value { result ≡ advanced place st (first_field rest.now) }
     ensures numbers { Used result.worked (pos 0) work_numbers w.old w.new }
     ensures exponents { Used result.worked 0 work_exponents e.old e.new }
 {
-    let t = rest[0];
-    let m = kinds::by_tag(st, t, &rest[3..bytes], w, e);
-    conclusion::concluded(st, place, bytes, m)
+    let r = kinds::effect(kind, st, &rest[3..bytes], w, e);
+    conclusion::concluded(st, kind, place, bytes, r)
 }

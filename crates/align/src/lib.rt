@@ -43,9 +43,8 @@ pub fn independent_identifiers(next: u32, a: PolyZonotope, b: PolyZonotope) -> I
     requires { Examined a × Examined b × (next ≤ last_fresh) }
     ensures { Factors (joined (view a) (renumbered next (view b))) result }
 {
-    let q = b.factors;
-    let fresh = numbering::renumber(next, q);
-    numbering::unite(&a.identifiers, a.factors, &fresh, q)
+    let fresh = numbering::renumber(next, b.factors);
+    numbering::unite(&a.identifiers, a.factors, &fresh, b.factors)
 }
 
 // The tied sum before finishing, over its identifiers.
@@ -61,8 +60,7 @@ pub fn tied(
     ensures { Joined (joined (view a) (view b)) all result e.old e.new c.old c.new
         g.old g.new }
 {
-    let ids = b.identifiers;
-    join(a, b, &ids, all, e, c, g)
+    join(a, b, &b.identifiers, all, e, c, g)
 }
 
 // The independent sum before finishing, over its identifiers.
@@ -98,17 +96,11 @@ fn join(
     ensures { Joined (summed a b ids.now) all result e.old e.new c.old c.new
         g.old g.new }
 {
-    let terms = join_terms(a, b, ids, all, e, c);
-    let generators = join_generators(a, b, g);
-    let centre = wide::add_centres(&a.centre, 1, &b.centre);
-    let first = a.radii;
-    let second = b.radii;
-    let radii = wide::add_radii(first, second);
     Sum {
-        terms,
-        generators,
-        centre,
-        radii,
+        terms: join_terms(a, b, ids, all, e, c),
+        generators: join_generators(a, b, g),
+        centre: wide::add_centres(&a.centre, 1, &b.centre),
+        radii: wide::add_radii(a.radii, b.radii),
     }
 }
 
@@ -125,12 +117,10 @@ fn join_terms(
         × Small max_span c.old }
     ensures { Terms (summed a b ids.now) e.old e.new c.old c.new result }
 {
-    let own = a.identifiers;
-    let h = a.terms;
     wide::align_rows(
         &a.exponents,
-        h,
-        &own,
+        a.terms,
+        &a.identifiers,
         a.factors,
         &all.numbers,
         all.count,
@@ -145,11 +135,11 @@ fn join_terms(
         &all.numbers,
         all.count,
         e,
-        h,
+        a.terms,
     );
-    wide::widen_rows(&a.coefficients, h, c, 0);
-    wide::widen_rows(&b.coefficients, b.terms, c, h);
-    h + b.terms
+    wide::widen_rows(&a.coefficients, a.terms, c, 0);
+    wide::widen_rows(&b.coefficients, b.terms, c, a.terms);
+    a.terms + b.terms
 }
 
 // The generators of both, one after the other. The answer is how many there are.
@@ -157,8 +147,7 @@ fn join_generators(a: PolyZonotope, b: PolyZonotope, g: &mut [i64]) -> usize
     requires { Examined a × Examined b × (288 ≤ length g.old) × Small max_span g.old }
     ensures { (ids : List ℕ) → Generators (summed a b ids) g.old g.new result }
 {
-    let h = a.generators;
-    wide::widen_rows(&a.vectors, h, g, 0);
-    wide::widen_rows(&b.vectors, b.generators, g, h);
-    h + b.generators
+    wide::widen_rows(&a.vectors, a.generators, g, 0);
+    wide::widen_rows(&b.vectors, b.generators, g, a.generators);
+    a.generators + b.generators
 }

@@ -15,11 +15,7 @@ fn meets(ids: &[u32; 12], p: usize, i: usize, all: &[u32; 24], n: usize, k: usiz
     requires { (p ≤ 12) × (n ≤ 24) }
     ensures { result ≡ meet (listed p ids.now) (listed n all.now) i k }
 {
-    if i < p {
-        let id = ids[i];
-        return numbering::stands_at(all, n, k, id);
-    }
-    false
+    i < p && numbering::stands_at(all, n, k, ids[i])
 }
 
 // Row `to` of e gets the exponents of row t, which belong to p factors, written for n factors, and 0 in the later columns.
@@ -38,16 +34,12 @@ fn align_row(
         (aligned_at exponents.now p ids.now n all.now t) 12 }
 {
     let mut i = 0;
-    let mut k = 0;
-    while k < 12 {
+    for k in 0..12 {
         if meets(ids, p, i, all, n, k) {
-            let x = exponents[t * 12 + i];
-            e[to * 12 + k] = x;
+            e[to * 12 + k] = exponents[t * 12 + i];
             i += 1;
-            k += 1;
         } else {
             e[to * 12 + k] = 0;
-            k += 1;
         }
     }
 }
@@ -77,9 +69,8 @@ pub fn widen_rows(numbers: &[i32], n: usize, c: &mut [i64], to: usize)
     requires { (n * 6 ≤ length numbers.now) × (to * 6 + n * 6 ≤ length c.old) }
     ensures { c.new ≡ write c.old (to * 6) (λ k. get_or numbers.now k (pos 0)) (n * 6) }
 {
-    for k in 0..n * 6 {
-        let x = numbers[k];
-        c[to * 6 + k] = whole::widen(x);
+    for (k, x) in numbers[..n * 6].iter().enumerate() {
+        c[to * 6 + k] = i64::from(*x);
     }
 }
 
@@ -90,9 +81,7 @@ pub fn add_centres(a: &[i32; 6], sign: i64, b: &[i32; 6]) -> [i64; 6]
 {
     let mut out = [0i64; 6];
     for i in 0..6 {
-        let x = a[i];
-        let y = b[i];
-        out[i] = add_wide(x, sign, y);
+        out[i] = add_wide(a[i], sign, b[i]);
     }
     out
 }
@@ -102,24 +91,18 @@ fn add_wide(x: i32, sign: i64, y: i32) -> i64
     requires { nat_abs sign ≤ 1 }
     ensures { result ≡ x +ℤ sign *ℤ y }
 {
-    let a = whole::widen(x);
-    let b = whole::widen(y);
-    whole::multiply_add(a, sign, b)
+    whole::multiply_add(i64::from(x), sign, i64::from(y))
 }
 
 // The sums of like parts of the radii of two sets.
 pub fn add_radii(a: Radii, b: Radii) -> WideRadii
     ensures { result ≡ added_radii a b }
 {
-    let carried = add_parts(&a.carried, &b.carried);
-    let rounded = add_parts(&a.rounded, &b.rounded);
-    let folded = add_parts(&a.folded, &b.folded);
-    let given = add_parts(&a.given, &b.given);
     WideRadii {
-        carried,
-        rounded,
-        folded,
-        given,
+        carried: add_parts(&a.carried, &b.carried),
+        rounded: add_parts(&a.rounded, &b.rounded),
+        folded: add_parts(&a.folded, &b.folded),
+        given: add_parts(&a.given, &b.given),
     }
 }
 
@@ -129,9 +112,7 @@ fn add_parts(a: &[u32; 6], b: &[u32; 6]) -> [u64; 6]
 {
     let mut out = [0u64; 6];
     for i in 0..6 {
-        let x = whole::widen_u32(a[i]);
-        let y = whole::widen_u32(b[i]);
-        out[i] = x + y;
+        out[i] = u64::from(a[i]) + u64::from(b[i]);
     }
     out
 }

@@ -1,2 +1,2 @@
--- The answer for what finishing gives, and what a set in wide form and the set itself are answered.
+-- A result as a call answers it, and what finishing a set in wide form and the set itself give.
 pub mod Settled

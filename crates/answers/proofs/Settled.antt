@@ -1,60 +1,55 @@
--- The answer for what finishing gives, and what a set in wide form and the set itself are answered.
-use Rattle.std.specs.Prelude.{◌≡◌, List, [], ◌∷◌, Bool, cond, ℕ, zero, suc, ◌+◌, ◌-◌, ◌*◌, ◌^◌, ◌<◌, ◌≤◌, length, get_or, take, replicate, ℤ, pos, nat_abs}
+-- A result as a call answers it, and what finishing a set in wide form and the set itself give.
+use Rattle.std.specs.Prelude.{◌≡◌, List, [], ◌∷◌, Bool, cond, ℕ, Result, Some, None}
+use Rattle.std.specs.Option.{ok_or}
 use Rattle.std.proofs.Math.Path.{refl}
-use Rattle.std.proofs.Common.{sym, ap, ap₂, subst, ◌∙◌, arith, length-take-le}
+use Rattle.std.proofs.Common.{sym, ap, ap₂, ◌∙◌}
 use Rattle.std.proofs.Math.Bool.{true, false}
-use Rattle.std.proofs.Math.Decide.{dec_lt}
-use Rattle.std.proofs.lemmas.List.{length-replicate}
-use Rattle.std.proofs.Math.ListN.{get_or-eq_default}
-use Rattle.whole.specs.Tab.{tab, tab_cong, get_d_tab, get_d_tab_past}
-use Rattle.whole.specs.Write.{get_d_take}
-use Rattle.rational.specs.Sum.{All, none, more}
-use Rattle.model.specs.Set.{Radii, Zonotope, radius_of, blank}
-use Rattle.model.proofs.Radii.{blank-at}
+use Rattle.std.proofs.Math.Option.{Option, none, some}
+use Rattle.model.specs.Set.{Zonotope}
 use Rattle.model.specs.Valid.{is_too_wide}
 use Rattle.model.specs.Finish.{finish}
-use Rattle.model.specs.Limits.{standard_weights}
-use Rattle.model.specs.Run.{◌if◌, first_of, no_set}
+use Rattle.model.specs.Run.{◌if◌, first_of}
 use Rattle.zonotope.specs.declared.PolyZonotope.{PolyZonotope}
-use Rattle.zonotope.specs.declared.WideRadii.{WideRadii}
-use Rattle.zonotope.specs.Record.{wide_parts_of, first_parts, anew, pack}
-use Rattle.rows.specs.Rows.{rows_of, Small}
-use Rattle.fold.specs.Marks.{same_at}
-use Rattle.fold.specs.Folding.{Under}
-use Rattle.finish.specs.declared.Unfinished.{Unfinished}
-use Rattle.finish.specs.declared.Finished.{Finished}
-use Rattle.finish.specs.Held.{PartsUnder, held, Reducible, Widened, finished_as}
+use Rattle.zonotope.specs.declared.Cause.{Cause}
+use Rattle.zonotope.specs.Record.{pack}
+use Rattle.zonotope.specs.Answer.{cause_of}
+use Rattle.finish.specs.Held.{finished_as}
 use Rattle.finish.specs.Wide.{wide}
 use Rattle.finish.specs.WideFinish.{Narrow}
 use Rattle.finish.specs.WideRecord.{finish-pack, finish-too_wide}
 use Rattle.answers.specs.declared.Changed.{Changed}
-use Rattle.answers.specs.Answer.{answered, settled, of_result}
+use Rattle.answers.specs.Answer.{resulted, answered, answer, settled}
 
--- ---- the answer for a finished result
--- what finishing gives by whether the result is too wide, and its record
-abbrev finished_by : Bool → PolyZonotope → Finished
-finished_by w r = cond w (record { narrow = false; set = pack no_set }) (record { narrow = true; set = r })
+-- ---- the answer of a call for its result
+pub answer-resulted : (o : Option ℕ) (s : PolyZonotope) (m : Zonotope) → answer s (resulted o m) ≡ answered o s m
+answer-resulted none s m = refl
+answer-resulted (some n) s m = refl
 
-module _ (s : PolyZonotope) (m : Zonotope) where
-  -- settled, a result is answered by whether it is too wide
-  pub settled_as : settled s (finished_as m) ≡ answered (of_result m) s m
-  unfolding first_of
-  settled_as = go (is_too_wide m)
-    where
-      go : (w : Bool) → settled s (finished_by w (pack m)) ≡ answered (first_of ((10 if w) ∷ [])) s m
-      go true = refl
-      go false = refl
+pub answered_as : (o : Option ℕ) (s : PolyZonotope) (m : Zonotope) {r : Result PolyZonotope Cause} {x : Changed}
+    → x ≡ answer s r → r ≡ resulted o m → x ≡ answered o s m
+answered_as o s m p e = p ∙ ap (answer s) e ∙ answer-resulted o s m
 
-  -- so is what finishing gave
-  pub settled-result : {f : Finished} {r : Changed} → r ≡ settled s f → f ≡ finished_as m → r ≡ answered (of_result m) s m
-  settled-result p e = p ∙ ap (settled s) e ∙ settled_as
+-- ---- a finished result, by whether it is too wide
+abbrev settled_by : Bool → PolyZonotope → Result PolyZonotope Cause
+settled_by w t = ok_or (cond w None (Some t)) (cause_of 10)
 
--- ---- a set in wide form and the set itself are answered alike
-pub finished_wide : (weights : List ℕ) (h q : ℕ) (s : Zonotope) → Narrow s
-    → finished_as (finish weights h q (wide s)) ≡ finished_as (finish weights h q s)
-finished_wide weights h q s n = ap₂ finished_by (finish-too_wide weights h q s n) (finish-pack weights h q s n)
+pub settled_as : (m : Zonotope) → ok_or (finished_as m) (cause_of 10) ≡ settled m
+unfolding first_of
+settled_as m = go (is_too_wide m)
+  where
+    go : (w : Bool) → settled_by w (pack m) ≡ resulted (first_of ((10 if w) ∷ [])) m
+    go true = refl
+    go false = refl
+
+-- ---- a set in wide form and the set itself are finished alike
+pub settled_wide : (weights : List ℕ) (h q : ℕ) (s : Zonotope) → Narrow s
+    → settled (finish weights h q (wide s)) ≡ settled (finish weights h q s)
+settled_wide weights h q s n =
+    sym (settled_as (finish weights h q (wide s)))
+    ∙ ap₂ settled_by (finish-too_wide weights h q s n) (finish-pack weights h q s n)
+    ∙ settled_as (finish weights h q s)
 
 -- so is a result that holds it
-pub finished_held : (weights : List ℕ) (h q : ℕ) (s : Zonotope) → Narrow s → {m : Zonotope} → m ≡ wide s → {f : Finished}
-    → f ≡ finished_as (finish weights h q m) → f ≡ finished_as (finish weights h q s)
-finished_held weights h q s n e p = p ∙ ap (λ (m : Zonotope). finished_as (finish weights h q m)) e ∙ finished_wide weights h q s n
+pub settled_held : (weights : List ℕ) (h q : ℕ) (s : Zonotope) → Narrow s → {m : Zonotope} → m ≡ wide s
+    → {r : Result PolyZonotope Cause} → r ≡ settled (finish weights h q m) → r ≡ settled (finish weights h q s)
+settled_held weights h q s n e p = p ∙ ap (λ (m : Zonotope). settled (finish weights h q m)) e ∙ settled_wide weights h q s n

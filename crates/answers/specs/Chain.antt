@@ -11,10 +11,9 @@ use Rattle.model.proofs.Shape as Model
 use Rattle.model.proofs.Shape.{ranged}
 use Rattle.model.proofs.Held.{Held, held, held_valid}
 use Rattle.zonotope.specs.declared.PolyZonotope.{PolyZonotope}
-use Rattle.zonotope.specs.declared.Examined.TheVariants.{Accepted}
 use Rattle.zonotope.specs.Record.{view, pack, spare, given}
 use Rattle.zonotope.specs.Valid.{Unrefused}
-use Rattle.zonotope.specs.Answer.{refused}
+use Rattle.zonotope.specs.Answer.{Accepted, refused}
 use Rattle.zonotope.proofs.ViewPack.{view-pack, spare-pack}
 use Rattle.answers.specs.declared.Changed.{Changed}
 use Rattle.answers.specs.Answer.{answered}

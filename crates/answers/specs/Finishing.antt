@@ -1,34 +1,23 @@
--- What finishing asks of a result in rows, and the answer for what it gives.
-use Rattle.std.specs.Prelude.{◌≡◌, List, [], ◌∷◌, Bool, cond, ℕ, zero, suc, ◌+◌, ◌-◌, ◌*◌, ◌^◌, ◌<◌, ◌≤◌, length, get_or, take, replicate, ℤ, pos, nat_abs}
-use Rattle.std.proofs.Math.Path.{refl}
+-- What finishing asks of a result in rows.
+use Rattle.std.specs.Prelude.{◌≡◌, List, ℕ, zero, suc, ◌+◌, ◌-◌, ◌*◌, ◌^◌, ◌<◌, ◌≤◌, length, get_or, take, replicate, ℤ, pos, nat_abs}
 use Rattle.std.proofs.Common.{sym, ap, ap₂, subst, ◌∙◌, arith, length-take-le}
-use Rattle.std.proofs.Math.Bool.{true, false}
 use Rattle.std.proofs.Math.Decide.{dec_lt}
 use Rattle.std.proofs.lemmas.List.{length-replicate}
 use Rattle.std.proofs.Math.ListN.{get_or-eq_default}
 use Rattle.whole.specs.Tab.{tab, tab_cong, get_d_tab, get_d_tab_past}
 use Rattle.whole.specs.Write.{get_d_take}
 use Rattle.rational.specs.Sum.{All, none, more}
-use Rattle.model.specs.Set.{Radii, Zonotope, radius_of, blank}
+use Rattle.model.specs.Set.{Radii, radius_of, blank}
 use Rattle.model.proofs.Radii.{blank-at}
-use Rattle.model.specs.Valid.{is_too_wide}
-use Rattle.model.specs.Finish.{finish}
 use Rattle.model.specs.Limits.{standard_weights}
-use Rattle.model.specs.Run.{◌if◌, first_of, no_set}
-use Rattle.zonotope.specs.declared.PolyZonotope.{PolyZonotope}
 use Rattle.zonotope.specs.declared.WideRadii.{WideRadii}
-use Rattle.zonotope.specs.Record.{wide_parts_of, first_parts, anew, pack}
+use Rattle.zonotope.specs.Record.{wide_parts_of, first_parts, anew}
 use Rattle.rows.specs.Rows.{rows_of, Small}
 use Rattle.fold.specs.Marks.{same_at}
 use Rattle.fold.specs.Folding.{Under}
 use Rattle.finish.specs.declared.Unfinished.{Unfinished}
-use Rattle.finish.specs.declared.Finished.{Finished}
-use Rattle.finish.specs.Held.{PartsUnder, held, Reducible, Widened, finished_as}
-use Rattle.finish.specs.Wide.{wide}
-use Rattle.finish.specs.WideFinish.{Narrow}
-use Rattle.finish.specs.WideRecord.{finish-pack, finish-too_wide}
-use Rattle.answers.specs.declared.Changed.{Changed}
-use Rattle.answers.specs.Answer.{answered, settled, of_result}
+use Rattle.finish.specs.declared.Limits.{Limits}
+use Rattle.finish.specs.Held.{PartsUnder, held, Reducible, Widened}
 
 -- a result in `rows` rows of e and c and the first rows of g: a set in wide form, with numbers for which nothing overflows
 pub record Finishable (u : Unfinished) (e : List ℕ) (c : List ℤ) (rows : ℕ) (g : List ℤ) (generators : ℕ) : Type 0 where
@@ -113,21 +102,21 @@ pub record Room (rows : ℕ) (places heads : List ℕ) (sums : List ℤ) : Type 
   pub sums_long : rows * 6 ≤ length sums
   pub sums_small : Small (2 ^ 40) sums
 
--- arrays for N rows have it
-pub room : (N rows : ℕ) → rows ≤ N → Room rows (replicate N 0) (replicate N 0) (replicate (N * 6) (pos 0))
-room N rows h =
+-- arrays for N rows, which hold M numbers, have it
+pub room : (N M rows : ℕ) → rows ≤ N → M ≡ N * 6 → Room rows (replicate N 0) (replicate N 0) (replicate M (pos 0))
+room N M rows h e =
     let places : length (replicate {A = ℕ} N 0) ≡ N = length-replicate N 0 in
-    let sums : length (replicate (N * 6) (pos 0)) ≡ N * 6 = length-replicate (N * 6) (pos 0) in
-    record { places-long = omega arith; heads-long = omega arith; sums_long = omega arith; sums_small = zeros_small (N * 6) }
+    let sums : length (replicate M (pos 0)) ≡ M = length-replicate M (pos 0) in
+    record { places-long = omega arith; heads-long = omega arith; sums_long = omega arith; sums_small = zeros_small M }
 
 -- what finishing in it asks
 module _ (u : Unfinished) (e : List ℕ) (c : List ℤ) (rows : ℕ) (g : List ℤ) (generators : ℕ) (places heads : List ℕ) (sums : List ℤ) where
   pub finish-asks : Finishable u e c rows g generators → Room rows places heads sums
-      → {term_count_limit generator_count_limit : ℕ} → term_count_limit ≤ 40 → generator_count_limit ≤ 24
-      → Reducible u e c (part rows places) (part rows heads) sums g generators term_count_limit generator_count_limit standard_weights
-      × Widened (held u e c (length (part rows places)) g generators)
-  finish-asks f n h q =
-      let p = part_length rows places n.places-long in
+      → {limits : Limits} → limits.terms ≤ 40 → limits.generators ≤ 24 → limits.weights ≡ standard_weights
+      → Reducible u e c (take rows places) (take rows heads) sums g generators limits
+      × Widened (held u e c (length (take rows places)) g generators)
+  finish-asks f n h q w =
+      let p = length-take-le rows places n.places-long in
       let few = f.rows_few in
       let long = n.sums_long in (
         record {
@@ -138,13 +127,13 @@ module _ (u : Unfinished) (e : List ℕ) (c : List ℤ) (rows : ℕ) (g : List �
           numbers_small = f.numbers_small;
           sums_long = omega arith;
           sums_small = n.sums_small;
-          heads-long = part_length rows heads n.heads-long ∙ sym p;
+          heads-long = length-take-le rows heads n.heads-long ∙ sym p;
           generators_few = f.generators_few;
           generators_long = f.generators_long;
           generators_small = f.generators_small;
           centre_small = f.centre_small;
           radii_small = f.radii_small;
-          weights_small = weights_under;
+          weights_small = rw w weights_under;
           term-limit = h;
           generator-limit = q;
         },

@@ -1,12 +1,14 @@
 // Results in rows, finished with the standard weights in local arrays: for 80 rows, which is enough for sums, for the 161 of a hull, or for
 // the 860 of a step.
-ghost use Rattle.std.specs.Prelude.{◌≡◌, ◌≤◌};
+ghost use Rattle.std.specs.Prelude.{◌≡◌, ◌≤◌, ◌*◌};
 ghost use Rattle.model.specs.Limits.{standard_weights};
 ghost use Rattle.model.specs.Finish.{finish};
-ghost use Rattle.finish.specs.Held.{held, finished_as};
-ghost use Rattle.answers.specs.Finishing.{Finishable, Room};
+ghost use Rattle.finish.specs.Held.{held};
+ghost use Rattle.answers.specs.Answer.{settled};
+ghost use Rattle.answers.specs.Finishing.{Finishable};
 
-use finish::{Finished, Unfinished};
+use finish::{Limits, Unfinished};
+use zonotope::{Cause, PolyZonotope};
 
 // The result with the first rows of e and c as its terms and the first rows of g as its generators, finished.
 pub fn finish_rows(
@@ -18,96 +20,53 @@ pub fn finish_rows(
     generators: usize,
     term_limit: usize,
     generator_limit: usize,
-) -> Finished
+) -> Result<PolyZonotope, Cause>
     requires { Finishable u e.now c.now rows g.old generators × (term_limit ≤ 40) × (generator_limit ≤ 24) }
-    ensures { result ≡ finished_as (finish standard_weights term_limit generator_limit
+    ensures { result ≡ settled (finish standard_weights term_limit generator_limit
         (held u e.now c.now rows g.old generators)) }
 {
+    let limits = Limits {
+        terms: term_limit,
+        generators: generator_limit,
+        weights: [4, 1, 4, 1, 4, 1],
+    };
     if rows <= 80 {
-        let mut places = [0u16; 80];
-        let mut heads = [0u16; 80];
-        let mut sums = [0i64; 480];
-        return finish_in(
-            u,
-            e,
-            c,
-            rows,
-            &mut places,
-            &mut heads,
-            &mut sums,
-            g,
-            generators,
-            term_limit,
-            generator_limit,
-        );
+        return finish_within::<80, 480>(u, e, c, rows, g, generators, limits);
     }
     if rows <= 161 {
-        let mut places = [0u16; 161];
-        let mut heads = [0u16; 161];
-        let mut sums = [0i64; 966];
-        return finish_in(
-            u,
-            e,
-            c,
-            rows,
-            &mut places,
-            &mut heads,
-            &mut sums,
-            g,
-            generators,
-            term_limit,
-            generator_limit,
-        );
+        return finish_within::<161, 966>(u, e, c, rows, g, generators, limits);
     }
-    let mut places = [0u16; 860];
-    let mut heads = [0u16; 860];
-    let mut sums = [0i64; 5160];
-    finish_in(
-        u,
-        e,
-        c,
-        rows,
-        &mut places,
-        &mut heads,
-        &mut sums,
-        g,
-        generators,
-        term_limit,
-        generator_limit,
-    )
+    finish_within::<860, 5160>(u, e, c, rows, g, generators, limits)
 }
 
-// The same in work space that has room for the rows.
-fn finish_in(
+// The same in arrays that have room for N rows, which hold M numbers.
+fn finish_within<const N: usize, const M: usize>(
     u: Unfinished,
     e: &[u8],
     c: &[i64],
     rows: usize,
-    places: &mut [u16],
-    heads: &mut [u16],
-    sums: &mut [i64],
     g: &mut [i64],
     generators: usize,
-    term_limit: usize,
-    generator_limit: usize,
-) -> Finished
-    requires { Finishable u e.now c.now rows g.old generators × (term_limit ≤ 40) × (generator_limit ≤ 24)
-        × Room rows places.old heads.old sums.old }
-    ensures { result ≡ finished_as (finish standard_weights term_limit generator_limit
+    limits: Limits,
+) -> Result<PolyZonotope, Cause>
+    requires { Finishable u e.now c.now rows g.old generators × (limits.terms ≤ 40) × (limits.generators ≤ 24)
+        × (limits.weights ≡ standard_weights) × (rows ≤ N) × (N ≤ 860) × (M ≡ N * 6) }
+    ensures { result ≡ settled (finish standard_weights limits.terms limits.generators
         (held u e.now c.now rows g.old generators)) }
 {
-    let weights = [4u64, 1, 4, 1, 4, 1];
-    finish::finish(
+    let mut places = [0u16; N];
+    let mut heads = [0u16; N];
+    let mut sums = [0i64; M];
+    let finished = finish::finish(
         u,
         e,
         c,
-        &mut places[0..rows],
-        &mut heads[0..rows],
-        sums,
+        &mut places[..rows],
+        &mut heads[..rows],
+        &mut sums,
         g,
         generators,
-        term_limit,
-        generator_limit,
-        weights,
-    )
+        limits,
+    );
+    finished.ok_or(Cause::ResultTooWide)
 }

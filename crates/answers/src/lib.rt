@@ -2,43 +2,31 @@
 #![tactic(auto)]
 
 ghost use Rattle.std.specs.Prelude.{◌≡◌};
-ghost use Rattle.answers.specs.Answer.{settled, is_refused};
+ghost use Rattle.answers.specs.Answer.{answer};
 
-use finish::Finished;
-use zonotope::{Examined, PolyZonotope};
+use zonotope::{Cause, PolyZonotope};
 
 pub mod finishing;
 
 // That the set was changed, with the changed set, or a refusal, with the first set as it came.
 #[derive(Clone, Copy)]
 pub struct Changed {
-    pub outcome: Examined,
+    pub outcome: Result<(), Cause>,
     pub set: PolyZonotope,
 }
 
-// The answer for a finished result: 10 where it is too wide, with the first set as it came.
-pub fn settle(first: PolyZonotope, f: Finished) -> Changed
-    ensures { result ≡ settled first f }
+// What a call on a first set answers for its result.
+pub fn answer(first: PolyZonotope, r: Result<PolyZonotope, Cause>) -> Changed
+    ensures { result ≡ answer first r }
 {
-    if f.narrow {
-        let set = f.set;
-        return Changed {
-            outcome: Examined::Accepted,
+    match r {
+        Ok(set) => Changed {
+            outcome: Ok(()),
             set,
-        };
-    }
-    Changed {
-        outcome: Examined::Refused(10),
-        set: first,
-    }
-}
-
-// Whether an answer refuses.
-pub fn is_refused(o: Examined) -> bool
-    ensures { result ≡ is_refused o }
-{
-    match o {
-        Examined::Accepted => false,
-        Examined::Refused(_) => true,
+        },
+        Err(cause) => Changed {
+            outcome: Err(cause),
+            set: first,
+        },
     }
 }

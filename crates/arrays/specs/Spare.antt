@@ -1,10 +1,10 @@
 -- Unused places of a list.
-use Rattle.std.specs.Prelude.{◌≡◌, refl, List, Bool, true, false, not, ◌&&◌, ◌||◌, ℕ, zero, suc, ◌+◌, ◌-◌, ◌*◌, ◌/◌, ◌%◌, ◌<◌, ◌≤◌, ltb, eqb, get_or, ℤ, pos, nat_abs}
-use Rattle.std.proofs.Common.{sym, ◌∙◌, ap, ap₂, mod-eq_of_lt, mod-lt, div-add-mod', le-div_iff_mul-le, div-lt_iff_lt-mul, mul-le-mul, le_refl, suc-mul, add-one, arith, lt-ltb, le-ltb}
+use Rattle.std.specs.Prelude.{◌≡◌, refl, List, Bool, true, false, not, ◌&&◌, ◌||◌, ℕ, ◌+◌, ◌-◌, ◌*◌, ◌/◌, ◌%◌, ◌<◌, ◌≤◌, ltb, eqb, get_or, ℤ, pos, nat_abs}
+use Rattle.std.proofs.Common.{sym, ◌∙◌, ap, ap₂, mod-eq_of_lt, mod-lt, div-add-mod', le-div_iff_mul-le, div-lt_iff_lt-mul, mul-le-mul, le_refl, suc-mul, arith, lt-ltb, le-ltb}
 use Rattle.std.proofs.Math.Nat.{mul-add-div_right, mul-add-mod_self_right, div-eq_of_lt}
 use Rattle.std.proofs.Math.Decide.{dec_lt}
 use Rattle.whole.specs.Tab.{tab, any}
-use Rattle.whole.specs.Tests.{some_below, any_found, any_none, none_at, or_left, or_right}
+use Rattle.whole.specs.Tests.{some_below, any_none, none_at, or_left, or_right}
 
 -- whether one of the n entries of a list that `used` leaves out isn't 0
 abbrev pub spare_ℕ : List ℕ → ℕ → (ℕ → Bool) → Bool
@@ -16,23 +16,6 @@ spare_ℤ xs n used = any (λ x. not (used x || eqb (nat_abs (get_or xs x (pos 0
 -- place x of rows of w is used in the first k entries of the first t rows
 abbrev pub in_rows : ℕ → ℕ → ℕ → ℕ → Bool
 in_rows w t k x = ltb (x / w) t && ltb (x % w) k
-
--- ---- a test of one place more
-pub some_more : (n : ℕ) (p : ℕ → Bool) → some_below (n + 1) p ≡ some_below n p || p n
-unfolding tab any
-some_more n p = rw add-one (from n (λ k. k))
-  where
-    last : (b : Bool) → b || false ≡ b
-    last true = refl
-    last false = refl
-
-    next : (a b c : Bool) {x : Bool} → x ≡ b || c → a || x ≡ (a || b) || c
-    next true b c e = refl
-    next false b c e = e
-
-    from : (n : ℕ) (f : ℕ → ℕ) → any p (tab (suc n) f) ≡ any p (tab n f) || p (f n)
-    from zero f = last (p (f 0))
-    from (suc n) f = next (p (f 0)) (any p (tab n (λ i. f (suc i)))) (p (f (suc n))) (from n (λ i. f (suc i)))
 
 -- ---- the unused places of rows are the last entries of the used rows, and all places after these rows
 -- two tests one of which fails where the other does are the same
@@ -52,6 +35,25 @@ taken z e = rw e
 
 stray : {u : Bool} (z : Bool) → u ≡ false → not (u || z) ≡ false → not z ≡ false
 stray z e h = rw e at h
+
+-- a list whose first entries are used: the unused places are its rest
+pub spare_rest : (n k : ℕ) (zeroAt : ℕ → Bool) → k ≤ n
+    → any (λ x. not (ltb x k || zeroAt x)) (tab n (λ x. x)) ≡ some_below (n - k) (λ i. not (zeroAt (k + i)))
+spare_rest n k zeroAt h = same _ _ there here
+  where
+    there : any (λ x. not (ltb x k || zeroAt x)) (tab n (λ x. x)) ≡ false → some_below (n - k) (λ i. not (zeroAt (k + i))) ≡ false
+    there e =
+        any_none _ (n - k) (λ i. i) (λ i l. stray (zeroAt (k + i)) (le-ltb (k + i) k (omega arith))
+        (none_at _ n (λ x. x) e (k + i) (omega arith)))
+
+    go : some_below (n - k) (λ i. not (zeroAt (k + i))) ≡ false → (x : ℕ) → x < n → Dec (x < k) → not (ltb x k || zeroAt x) ≡ false
+    go e x l (yes m) = taken {u = ltb x k} (zeroAt x) (lt-ltb x k m)
+    go e x l (no m) =
+        let i : k + (x - k) ≡ x = omega arith in
+        full (ltb x k) (zeroAt x) (rw i at (none_at _ (n - k) (λ i. i) e (x - k) (omega arith)))
+
+    here : some_below (n - k) (λ i. not (zeroAt (k + i))) ≡ false → any (λ x. not (ltb x k || zeroAt x)) (tab n (λ x. x)) ≡ false
+    here e = any_none _ n (λ x. x) (λ x l. go e x l (dec_lt x k))
 
 module _ (w t k n : ℕ) (positive : 0 < w) (within : t * w ≤ n) (narrow : k ≤ w) (zeroAt : ℕ → Bool) where
   abbrev after : Bool
@@ -98,16 +100,5 @@ module _ (w t k n : ℕ) (positive : 0 < w) (within : t * w ≤ n) (narrow : k �
           let row = none_at rest t (λ r. r) none (x / w) ((div-lt_iff_lt-mul positive).1 h) in
           full (in_rows w t k x) (zeroAt x) (rw i at (none_at _ (w - k) (λ i. i) row (x % w - k) (omega (arith, mod-lt x positive))))
 
-  spare-rows : any (λ x. not (in_rows w t k x || zeroAt x)) (tab n (λ x. x)) ≡ after || some_below t rest
+  pub spare-rows : any (λ x. not (in_rows w t k x || zeroAt x)) (tab n (λ x. x)) ≡ after || some_below t rest
   spare-rows = same _ _ unless_stray unless_held
-
-  -- the three answers of a search: after the used rows, in row r, nowhere
-  pub spare-after : after ≡ true → any (λ x. not (in_rows w t k x || zeroAt x)) (tab n (λ x. x)) ≡ true
-  spare-after e = spare-rows ∙ ap (◌|| some_below t rest) e
-
-  pub spare-row : after ≡ false → (r : ℕ) → r < t → rest r ≡ true → any (λ x. not (in_rows w t k x || zeroAt x)) (tab n (λ x. x)) ≡ true
-  spare-row e r h q = spare-rows ∙ ap₂ ◌||◌ e (any_found _ t (λ r. r) r h q)
-
-  pub spare_none : after ≡ false → ((r : ℕ) → r < t → rest r ≡ false)
-      → any (λ x. not (in_rows w t k x || zeroAt x)) (tab n (λ x. x)) ≡ false
-  spare_none e h = spare-rows ∙ ap₂ ◌||◌ e (any_none _ t (λ r. r) h)

@@ -21,14 +21,10 @@ pub fn too_wide<'a>(
 {
     let terms = column_sizes(coefficients, h);
     let generators = column_sizes(vectors, q);
-    for i in 0..n {
-        let c = centre[i];
-        let r = radii[i];
-        if limit < whole::size_i32(c) + terms[i] + generators[i] + r {
-            return true;
-        }
-    }
-    false
+    (0..n).any(|i| {
+        let span = u64::from(centre[i].unsigned_abs()) + terms[i] + generators[i] + radii[i];
+        limit < span
+    })
 }
 
 // The sizes at each place of the first rows of 6, added up.
@@ -38,21 +34,18 @@ pub fn column_sizes(xs: &[i32], rows: usize) -> [u64; 6]
 {
     let mut sums = [0u64; 6];
     for t in 0..rows {
-        let more = add_sizes(sums, xs, t);
-        sums = more;
+        add_sizes(&mut sums, &xs[t * 6..t * 6 + 6]);
     }
     sums
 }
 
-// The sums with the sizes of row t.
-fn add_sizes(sums: [u64; 6], xs: &[i32], t: usize) -> [u64; 6]
-    requires { (t < 40) × (t * 6 + 6 ≤ length xs.now) × ((i : ℕ) → get_or sums i 0 ≤ t * 2147483648) }
-    ensures { (result ≡ tab 6 (λ i. get_or sums i 0 + nat_abs (get_or xs.now (t * 6 + i) (pos 0))))
-        × ((i : ℕ) → get_or result i 0 ≤ (t + 1) * 2147483648) }
+// The sizes of a row are added to the sums.
+fn add_sizes(sums: &mut [u64; 6], row: &[i32])
+    requires { (length row.now ≡ 6) × ((i : ℕ) → get_or sums.old i 0 ≤ 40 * 2147483648) }
+    ensures { (sums.new ≡ tab 6 (λ i. get_or sums.old i 0 + nat_abs (get_or row.now i (pos 0))))
+        × ((i : ℕ) → get_or sums.new i 0 ≤ get_or sums.old i 0 + 2147483648) }
 {
-    let mut out = sums;
-    for i in 0..6 {
-        out[i] = sums[i] + whole::size_i32(xs[t * 6 + i]);
+    for (i, sum) in sums.iter_mut().enumerate() {
+        *sum += u64::from(row[i].unsigned_abs());
     }
-    out
 }

@@ -1,12 +1,12 @@
 -- The bodies of the other kinds: their counts, and bodies as long as their counts say.
-use Rattle.std.specs.Prelude.{◌≡◌, refl, List, [], ◌∷◌, map, Bool, false, not, ◌||◌, ℕ, suc, ◌+◌, ◌*◌, ◌/◌, ◌%◌, ◌<◌, ◌≤◌, ltb, eqb, length, ℤ, pos, negsuc, nat_abs}
-use Rattle.std.proofs.Common.{sym, ap, ap₂, ◌∙◌, mul-le-mul, arith, le-ltb, lt-ltb}
+use Rattle.std.specs.Prelude.{◌≡◌, refl, List, [], ◌∷◌, map, Bool, false, not, ◌||◌, ℕ, suc, ◌+◌, ◌*◌, ◌/◌, ◌%◌, ◌≤◌, ltb, eqb, length, ℤ, pos, negsuc, nat_abs}
+use Rattle.std.proofs.Common.{sym, ap, ap₂, ◌∙◌, arith, le-ltb, lt-ltb}
 use Rattle.whole.specs.Tab.{tab, any}
 use Rattle.model.specs.Limits.{max_terms, max_generators, max_halfspaces}
-use Rattle.model.specs.Bytes.{word, words, long}
-use Rattle.model.specs.Body.{dimension, step_rows, step_columns, step_length, given_step, ranged_length, given_widths}
+use Rattle.model.specs.Bytes.{word, long}
+use Rattle.model.specs.Body.{dimension, step_rows, step_columns, step_length, ranged_length}
 use Rattle.model.specs.Body.{term_count_limit, generator_count_limit, halfspace_count, halfspace_at}
-use Rattle.model.specs.Field.{bad_dimension, all_zero, negative, beyond, negative_width}
+use Rattle.model.specs.Field.{bad_dimension, all_zero, negative, beyond}
 use Rattle.model.proofs.Tests.{zero-radii}
 
 module _ (b : List ℕ) where
@@ -72,46 +72,3 @@ sizes_above (negsuc n ∷ zs) = ap (◌|| any (ltb 0) (map nat_abs zs)) (lt-ltb 
 
 pub zero-words : (zs : List ℤ) → not (any (λ z. negative z || beyond 0 z) zs) ≡ all_zero (map nat_abs zs)
 zero-words zs = sym (zero-radii (map nat_abs zs) ∙ ap not (sizes_above zs))
-
--- numbers of entries of a step whose counts are bytes
-pub entries_small : (m n : ℕ) → m < 256 → n < 256 → (m * n ≤ 65025) × (m * n * n ≤ 16581375)
-entries_small m n h l =
-    let two = mul-le-mul {n₁ = m} {m₁ = n} {n₂ = 255} {m₂ = 255} (omega arith) (omega arith) in
-    (two, mul-le-mul {n₁ = m * n} {m₁ = n} {n₂ = 65025} {m₂ = 255} two (omega arith))
-
--- the counts and the step's length, read from a body: how large they are, and where the half-widths end
-pub record RangedRead (b : List ℕ) (m n from : ℕ) : Type 0 where
-  pub linears : m * n ≤ 65025
-  pub quadratics : m * n * n ≤ 16581375
-  pub room : from ≤ 66586622
-  pub ends : from + 4 * (m * n) + 4 * (m * n * n) ≡ ranged_length b
-
-pub ranged_read : (b : List ℕ) {m n from : ℕ} → (m ≡ step_rows b) × (m < 256) → (n ≡ step_columns b) × (n < 256) → from ≡ step_length b
-    → RangedRead b m n from
-ranged_read b {m} {n} {from} k l e =
-    let s = entries_small m n k.1 l.1 in
-    let f : from ≡ 2 + 4 * m + 4 * (m * n) + 4 * (m * n * n) = rw (e, k.0, l.0) in
-    record { linears = s.0; quadratics = s.1; room = omega (arith, k.1); ends = rw (e, k.0, l.0) }
-
-pub region_small : (count n : ℕ) → count < 256 → n < 256 → count * (4 * n + 8) ≤ 262140
-region_small count n h l = mul-le-mul {n₁ = count} {m₁ = 4 * n + 8} {n₂ = 255} {m₂ = 1028} (omega arith) (omega arith)
-
--- the words of a step, by the numbers of its entries
-pub step-parts : (b : List ℕ) {c a q : ℕ} → StepBody b c a q → {x y z : List ℤ}
-    → x ≡ words b 2 c → y ≡ words b (2 + 4 * c) a → z ≡ words b (2 + 4 * c + 4 * a) q
-    → (x ≡ (given_step b).constant) × (y ≡ (given_step b).linear) × (z ≡ (given_step b).quadratic)
-unfolding given_step
-step-parts b h e₁ e₂ e₃ = rw (e₁, e₂, e₃, h.constant, h.linear, h.quadratic) (refl, refl, refl)
-
--- and the half-widths
-pub width-parts : (b : List ℕ) {a q : ℕ} → WidthsBody b a q → {from : ℕ} → from ≡ step_length b → {x y : List ℕ}
-    → x ≡ map nat_abs (words b from a) → y ≡ map nat_abs (words b (from + 4 * a) q)
-    → (x ≡ (given_widths b).linear) × (y ≡ (given_widths b).quadratic)
-unfolding given_widths
-width-parts b h e e₁ e₂ = rw (e₁, e₂, e, h.linear, h.quadratic) (refl, refl)
-
--- whether one is negative, from the counts and the step's length
-pub negative-parts : (b : List ℕ) {m n from : ℕ} → m ≡ step_rows b → n ≡ step_columns b → from ≡ step_length b
-    → (any negative (words b from (m * n)) || any negative (words b (from + 4 * (m * n)) (m * n * n)))
-    ≡ negative_width b
-negative-parts b e₁ e₂ e = rw (e, e₁, e₂)

@@ -1,51 +1,23 @@
 -- Laws of the body of a set: positions in it, and the record that is filled from it.
-use Rattle.std.specs.Prelude.{◌≡◌, refl, List, [], map, false, ℕ, zero, suc, ◌+◌, ◌*◌, ◌/◌, ◌%◌, ◌≤◌, length, replicate, ℤ, nat_abs}
-use Rattle.std.proofs.Common.{sym, ◌∙◌, mul-le-mul}
+use Rattle.std.specs.Prelude.{◌≡◌, refl, List, [], map, ℕ, zero, suc, ◌+◌, ◌*◌, ◌/◌, ◌%◌, ◌<◌, ◌≤◌, replicate, ℤ, nat_abs}
+use Rattle.std.proofs.Common.{sym, ◌∙◌}
 use Rattle.std.proofs.Math.Path.{ap}
 use native.Mathlib.Omega.{arith}
 use Rattle.std.proofs.Math.ListN.{get_or}
 use Rattle.whole.specs.Tab.{tab, length-tab, tab_cong}
 use Rattle.model.specs.Set.{Term, at, blank}
-use Rattle.model.specs.Valid.{bad_counts}
 use Rattle.model.specs.Bytes.{byte, number, words}
 use Rattle.model.proofs.Radii.{blank-at}
 use Rattle.zonotope.specs.declared.PolyZonotope.{PolyZonotope}
 use Rattle.zonotope.specs.Record.{firsts, pack, no_term}
-use Rattle.zonotope.specs.Counts.{countable}
-use Rattle.bodies.specs.declared.SetCounts.{SetCounts}
-use Rattle.bodies.specs.Rows.{Within, row_below}
-use Rattle.bodies.specs.Set.{counts_of, counts_out, SetBody, InLimits, SetLaid, set_of}
+use Rattle.bodies.specs.declared.counts.SetCounts.{SetCounts}
+use Rattle.bodies.specs.Rows.{row_below}
+use Rattle.bodies.specs.Set.{SetLaid, set_of}
 use Rattle.bodies.specs.Set.{centre_from, terms_from, term_bytes, generators_from, radii_from}
 
--- ---- counts in limits
-pub in_limits : (k : SetCounts) → counts_out k ≡ false → InLimits k
-unfolding bad_counts
-in_limits k e = simp length-tab at (countable (set_of [] k) (simp length-tab e))
-
-pub laid : (b : List ℕ) → SetBody b → SetLaid (counts_of b) (length b)
-laid b h = record { counts = in_limits (counts_of b) h.counts; long = h.long }
-
 -- ---- positions
-pub terms_small : (k : SetCounts) → InLimits k → k.terms * term_bytes k ≤ 1440
-terms_small k l =
-    omega (arith, mul-le-mul {n₁ = k.terms} {m₁ = term_bytes k} {n₂ = 40} {m₂ = 36} l.terms (omega (arith, l.factors, l.dimension)))
-
-pub generators_small : (k : SetCounts) → InLimits k → k.generators * (4 * k.dimension) ≤ 576
-generators_small k l =
-    omega (
-      arith,
-      mul-le-mul {n₁ = k.generators} {m₁ = 4 * k.dimension} {n₂ = 24} {m₂ = 24} l.generators (omega (arith, l.dimension)),
-    )
-
-module _ (k : SetCounts) (body : ℕ) (h : SetLaid k body) where
-  pub exponents-within : Within body (terms_from k) (term_bytes k) k.factors k.terms
-  exponents-within = record { row = λ t l. omega (arith, row_below (term_bytes k) t k.terms l, h.long) }
-
-  pub coefficients-within : Within body (terms_from k + k.factors) (term_bytes k) (4 * k.dimension) k.terms
-  coefficients-within = record { row = λ t l. omega (arith, row_below (term_bytes k) t k.terms l, h.long) }
-
-  pub generators_within : Within body (generators_from k) (4 * k.dimension) (4 * k.dimension) k.generators
-  generators_within = record { row = λ t l. omega (arith, row_below (4 * k.dimension) t k.generators l, h.long) }
+pub exponents-within : (k : SetCounts) (body : ℕ) → SetLaid k body → (t : ℕ) → t < k.terms → terms_from k + t * term_bytes k + k.factors ≤ body
+exponents-within k body h t l = omega (arith, row_below (term_bytes k) t k.terms l, h.long)
 
 -- ---- the record
 -- a part of an entry of a table is the entry of a table of parts
@@ -65,13 +37,13 @@ no_part n = six-zeros ∙ tab_cong 6 _ _ (λ i l. sym (blank-at n i))
 
 module _ (b : List ℕ) (k : SetCounts) where
   -- the rows of the body, by their positions
-  abbrev exponent_rows : List (List ℕ)
+  abbrev pub exponent_rows : List (List ℕ)
   exponent_rows = tab k.terms (λ t. tab k.factors (λ j. byte b (terms_from k + t * term_bytes k + j)))
 
-  abbrev coefficient_rows : List (List ℤ)
+  abbrev pub coefficient_rows : List (List ℤ)
   coefficient_rows = tab k.terms (λ t. words b (terms_from k + k.factors + t * term_bytes k) k.dimension)
 
-  abbrev generator_rows : List (List ℤ)
+  abbrev pub generator_rows : List (List ℤ)
   generator_rows = tab k.generators (λ g. words b (generators_from k + g * (4 * k.dimension)) k.dimension)
 
   abbrev term_of : ℕ → Term

@@ -1,21 +1,20 @@
 -- The region of a check: its normals and bounds in two lists are the halfspaces that the body says.
-use Rattle.std.specs.Prelude.{◌≡◌, List, Bool, true, false, ℕ, ◌+◌, ◌*◌, ◌/◌, ◌%◌, ◌<◌, ◌≤◌, ltb, eqb, length, get_or, ℤ, pos}
+use Rattle.std.specs.Prelude.{◌≡◌, List, Bool, true, false, ℕ, ◌+◌, ◌*◌, ◌/◌, ◌%◌, ◌<◌, ltb, eqb, ℤ, pos}
 use Rattle.std.proofs.Math.Path.{refl, sym, ap, ap₂}
-use Rattle.std.proofs.Common.{◌∙◌, mod-eq_of_lt, mod-lt, div-lt_iff_lt-mul, div-add-mod', ext_get_or}
+use Rattle.std.proofs.Common.{◌∙◌, mod-eq_of_lt, mod-lt, div-lt_iff_lt-mul}
 use Rattle.std.proofs.Math.Bool.{◌||◌}
 use Rattle.std.proofs.Math.Nat.{mul-add-div_right, div-eq_of_lt, mul-add-mod_self_right}
 use native.Mathlib.Omega.{arith}
 use Rattle.std.proofs.lemmas.Bool.{eqb-false}
-use Rattle.whole.specs.Tab.{tab, any, length-tab, get_d_tab, tab_cong, tab-row}
-use Rattle.whole.specs.Write.{write, write-all}
+use Rattle.whole.specs.Tab.{tab, any, get_d_tab, tab_cong, tab-row}
 use Rattle.whole.specs.Tests.{any_or, any_none, none_at, any-places, or_left}
 use Rattle.model.specs.Limits.{max_dimension, max_halfspaces, max_entry, max_bound}
 use Rattle.model.specs.Set.{at}
 use Rattle.model.specs.Bytes.{word, long}
 use Rattle.model.specs.Body.{dimension, halfspace_count, halfspace_at, given_halfspaces}
 use Rattle.model.specs.Field.{bad_dimension, beyond}
-use Rattle.bodies.specs.Rows.{Within, write_rows, rows-length, rows_at, row_below}
-use Rattle.bodies.specs.Fields.{region_counts_out, RegionBody, given_normals, given_bounds}
+use Rattle.bodies.specs.Rows.{row_below}
+use Rattle.bodies.specs.Fields.{region_counts_out, given_normals, given_bounds}
 
 -- ---- a table in rows of n without gaps
 module _ {X : Type 0} (n : ℕ) (F : ℕ → ℕ → X) where
@@ -31,17 +30,6 @@ module _ {X : Type 0} (n : ℕ) (F : ℕ → ℕ → X) where
   -- the row of a place
   row_of : (rows x : ℕ) → 0 < n → x < rows * n → x / n < rows
   row_of rows x h l = (div-lt_iff_lt-mul h).1 l
-
-  -- rows written from end to end
-  pub rows_full : (d : X) (rows : ℕ) (ws : List X) → 0 < n → length ws ≡ rows * n
-      → write_rows ws n F n rows ≡ tab (rows * n) (λ x. F (x / n) (x % n))
-  rows_full d rows ws h e =
-      ext_get_or d (write_rows ws n F n rows) (tab (rows * n) flat)
-      (rows-length ws n F n rows ∙ e ∙ sym (length-tab (rows * n) flat))
-      (λ x l. let m : x < rows * n = omega (arith, rows-length ws n F n rows) in
-      ap (λ y. get_or (write_rows ws n F n rows) y d) (sym (div-add-mod' x n))
-      ∙ rows_at ws n F n d (omega arith) rows (x / n) (x % n) (row_of rows x h m) (mod-lt x h) (omega arith)
-      ∙ sym (get_d_tab (rows * n) flat d x m))
 
   -- a test of some entry of some row is one of some entry of the table
   pub any-rows : (p : X → Bool) (rows : ℕ) → 0 < n → {A : Type 0} (v : A → List X) (f : ℕ → A) → ((k : ℕ) → v (f k) ≡ tab n (F k))
@@ -95,36 +83,3 @@ module _ (b : List ℕ) where
       any_or _ _ (given_halfspaces b)
       ∙ ap₂ ◌||◌ (any-rows (dimension b) entry (beyond max_entry) (halfspace_count b) (some_coordinate e) (λ h. h.normal) _ (λ k. refl))
       (any-places _ (halfspace_count b) _ ∙ sym (any-places (beyond max_bound) (halfspace_count b) _))
-
--- ---- as code reads it, with n coordinates
-module _ (b : List ℕ) (ws vs : List ℤ) (h : RegionBody b (length ws) (length vs)) where
-  pub normals_within : (n : ℕ) → n ≡ dimension b → Within (length b) 2 (4 * n + 8) (4 * n) (length vs)
-  normals_within n e = rw (e, h.bounds_long) (record {
-    row = λ t l. omega (arith, row_below (4 * dimension b + 8) t (halfspace_count b) l, h.long);
-  })
-
-  pub bounds_within : (n : ℕ) → n ≡ dimension b → Within (length b) (2 + 4 * n) (4 * n + 8) 8 (length vs)
-  bounds_within n e = rw (e, h.bounds_long) (record {
-    row = λ t l. omega (arith, row_below (4 * dimension b + 8) t (halfspace_count b) l, h.long);
-  })
-
-  pub normals_room : (n : ℕ) → n ≡ dimension b → length vs * n ≤ length ws
-  normals_room n e = rw (e, h.bounds_long) (omega (arith, h.normals_long))
-
-  pub normals_read : (n : ℕ) → n ≡ dimension b → {x : List ℤ}
-      → x ≡ write_rows ws n (λ t j. word b (2 + t * (4 * n + 8) + 4 * j)) n (length vs) → x ≡ given_normals b
-  unfolding given_normals
-  normals_read n e r =
-      let some = some_coordinate b h.counts in
-      r ∙ rw (e, h.bounds_long) (rows_full (dimension b) (entry b) (pos 0) (halfspace_count b) ws some h.normals_long)
-
-  pub bounds_read : (n : ℕ) → n ≡ dimension b → {y : List ℤ}
-      → y ≡ write vs 0 (λ t. long b (2 + 4 * n + t * (4 * n + 8))) (length vs) → y ≡ given_bounds b
-  unfolding given_bounds
-  bounds_read n e r =
-      r
-      ∙ write-all vs _ (pos 0) (length vs) refl
-      ∙ rw (e, h.bounds_long) (tab_cong (halfspace_count b) _ _ (λ t l. ap (long b) (moved t)))
-    where
-      moved : (t : ℕ) → 2 + 4 * dimension b + t * (4 * dimension b + 8) ≡ halfspace_at b t + 4 * dimension b
-      moved t = omega arith

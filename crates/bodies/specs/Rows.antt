@@ -1,24 +1,21 @@
 -- Rows of n places written into a list of rows of w, and a list of zeros with places or rows written to it.
-use Rattle.std.specs.Prelude.{◌≡◌, List, [], replicate}
+use Rattle.std.specs.Prelude.{◌≡◌, List, [], ◌++◌, replicate, take, drop}
 use Rattle.std.proofs.Math.Path.{refl, ap}
 use Rattle.std.proofs.Common.{sym, ◌∙◌, zero-add, div-add-mod', mod-lt, ext_get_or}
-use Prim.Native.Nat.{ℕ, zero, suc, ◌+◌, ◌*◌, ◌/◌, ◌%◌, ◌<◌, ◌≤◌}
+use Prim.Native.Nat.{ℕ, zero, suc, ◌+◌, ◌*◌, ◌-◌, ◌/◌, ◌%◌, ◌<◌, ◌≤◌}
 use Rattle.std.proofs.Math.Nat.{mul-le-mul_right}
 use Rattle.std.proofs.Math.Numerals.{add-one}
 use Rattle.std.proofs.Math.Decide.{dec_lt}
 use native.Mathlib.Omega.{arith}
-use Rattle.std.proofs.Math.ListN.{length, get_or}
+use Rattle.std.proofs.Math.ListN.{length, get_or, length-drop}
+use Rattle.std.proofs.Math.Seq.{length-take-le}
 use Rattle.whole.specs.Tab.{tab, length-tab, get_d_tab, get_d_tab_past}
-use Rattle.whole.specs.Write.{write, write-length, write-at, write-before, write-after}
+use Rattle.whole.specs.Write.{write, write-length, write-at, write-before, write-after, write-all, write-part}
 
 -- row q of t holds f q 0 .. f q (n - 1) from place q * w on, and the other places what they held
 unfoldable pub write_rows : {X : Type 0} → List X → ℕ → (ℕ → ℕ → X) → ℕ → ℕ → List X
 write_rows ws w f n zero = ws
 write_rows ws w f n (suc t) = write (write_rows ws w f n t) (t * w) (f t) n
-
--- rows of some size, one every `stride` positions from i on, lie in a body
-pub record Within (body i stride size rows : ℕ) : Type 0 where
-  pub row : (t : ℕ) → t < rows → i + t * stride + size ≤ body
 
 -- a row ends where the next begins, or before
 pub row_below : (w q t : ℕ) → q < t → q * w + w ≤ t * w
@@ -68,7 +65,7 @@ zeros-at d (suc N) zero = refl
 zeros-at d (suc N) (suc x) = zeros-at d N x
 
 module _ {X : Type 0} (d : X) (N : ℕ) (ws : List X) (long : length ws ≡ N) (zeros : (x : ℕ) → get_or ws x d ≡ d) where
-  pub padded : (f : ℕ → X) (n : ℕ) → n ≤ N → write ws 0 f n ≡ tab N (λ i. get_or (tab n f) i d)
+  padded : (f : ℕ → X) (n : ℕ) → n ≤ N → write ws 0 f n ≡ tab N (λ i. get_or (tab n f) i d)
   padded f n h =
       ext_get_or d (write ws 0 f n) (tab N (λ i. get_or (tab n f) i d))
       (write-length ws 0 f n ∙ long ∙ sym (length-tab N (λ i. get_or (tab n f) i d)))
@@ -78,6 +75,14 @@ module _ {X : Type 0} (d : X) (N : ℕ) (ws : List X) (long : length ws ≡ N) (
       go i (yes l) =
           ap (λ x. get_or (write ws 0 f n) x d) (sym (zero-add i)) ∙ write-at ws 0 f d n i l (omega arith) ∙ sym (get_d_tab n f d i l)
       go i (no l) = write-after ws 0 f d n i (omega arith) ∙ zeros i ∙ sym (get_d_tab_past n f d i (omega arith))
+
+  -- a table at its start
+  pub padded_part : (part : List X) (f : ℕ → X) (n : ℕ) → n ≤ N → part ≡ tab n f → part ++ drop n ws ≡ tab N (λ i. get_or (tab n f) i d)
+  padded_part part f n h e =
+      let short : length (take n ws) ≡ n = length-take-le n ws (omega (arith, long)) in
+      ap (λ ys. ys ++ drop n ws) (e ∙ sym (write-all (take n ws) f d n short))
+      ∙ write-part ws 0 n f (omega (arith, long)) n (omega arith)
+      ∙ padded f n h
 
   module _ (w : ℕ) (f : ℕ → ℕ → X) (n t : ℕ) (some : 0 < w) (narrow : n ≤ w) (few : t * w ≤ N) where
     -- what place x holds of the rows
@@ -108,25 +113,35 @@ module _ {X : Type 0} (d : X) (N : ℕ) (ws : List X) (long : length ws ≡ N) (
         ∙ row-held (x / w) (x % w) (mod-lt x some) (dec_lt (x / w) t) (dec_lt (x % w) n)
         ∙ sym (get_d_tab N held d x (omega (arith, rows-length ws w f n t))))
 
--- ---- what a loop knows that writes row after row
-pub record RowsWritten {X : Type 0} (ws : List X) (w : ℕ) (f : ℕ → ℕ → X) (n rows : ℕ) (out : List X) (t : ℕ) : Type 0 where
-  pub within : t ≤ rows
-  pub is : out ≡ write_rows ws w f n t
-  pub long : length out ≡ length ws
+-- ---- a closure that gives the places of rows
+-- it may be called for each of n places of each row
+abbrev pub RowsCallable : (ℕ → ℕ → Type 0) → ℕ → ℕ → Type 0
+RowsCallable pre rows n = (t j : ℕ) → t < rows → j < n → pre t j
 
-module _ {X : Type 0} (ws : List X) (w : ℕ) (f : ℕ → ℕ → X) (n rows : ℕ) where
-  pub rows_none : RowsWritten ws w f n rows ws 0
-  unfolding write_rows
-  rows_none = record { within = omega arith; is = refl; long = refl }
+-- it gives f t j for place j of row t
+abbrev pub RowsGiven : {X : Type 0} → (ℕ → ℕ → X → Type 0) → ℕ → ℕ → (ℕ → ℕ → X) → Type 0
+RowsGiven {X} post rows n f = (t j : ℕ) (v : X) → t < rows → j < n → post t j v → v ≡ f t j
 
-  pub rows_more : {out next : List X} {t : ℕ} → RowsWritten ws w f n rows out t → t < rows → next ≡ write out (t * w) (f t) n
-      → RowsWritten ws w f n rows next (t + 1)
-  unfolding write_rows
-  rows_more {out} {next} {t} h l e = record {
-    within = omega arith;
-    is = rw add-one (e ∙ ap (λ x. write x (t * w) (f t) n) h.is);
-    long = ap length e ∙ write-length out (t * w) (f t) n ∙ h.long;
-  }
+module _ {X : Type 0} (xs : List X) (a n : ℕ) (within : a + n ≤ length xs) where
+  -- n places from a on, as a range, are n places
+  pub part_long : length (take (a + n - a) (drop a xs)) ≡ n
+  part_long = length-take-le (a + n - a) (drop a xs) (omega (arith, length-drop a xs)) ∙ omega arith
 
-  pub rows_all : {out : List X} {t : ℕ} → RowsWritten ws w f n rows out t → rows ≤ t → out ≡ write_rows ws w f n rows
-  rows_all {out} {t} h l = let e : t ≡ rows = omega (arith, h.within) in h.is ∙ ap (write_rows ws w f n) e
+  -- a table in their place
+  pub part_filled : (part : List X) (f : ℕ → X) → part ≡ tab n f → take a xs ++ (part ++ drop (a + n - a) (drop a xs)) ≡ write xs a f n
+  part_filled part f e =
+      let long : a + n - a ≡ n = omega arith in
+      let short : length (take n (drop a xs)) ≡ n = rw long at part_long in
+      rw long (ap (λ ys. take a xs ++ (ys ++ drop n (drop a xs))) (e ∙ sym (write-all (take n (drop a xs)) f (f 0) n short))
+      ∙ write-part xs a n f within n (omega arith))
+
+-- one more row
+pub row_written : {X : Type 0} (ws out part : List X) (w : ℕ) (f : ℕ → ℕ → X) (n t : ℕ) → t * w + n ≤ length out → out ≡ write_rows ws w f n t
+    → part ≡ tab n (f t) → take (t * w) out ++ (part ++ drop (t * w + n - t * w) (drop (t * w) out)) ≡ write_rows ws w f n (t + 1)
+unfolding write_rows
+row_written ws out part w f n t l e p =
+    part_filled out (t * w) n l part (f t) p ∙ rw add-one (ap (λ x. write x (t * w) (f t) n) e)
+
+pub no_rows : {X : Type 0} (ws : List X) (w : ℕ) (f : ℕ → ℕ → X) (n : ℕ) → ws ≡ write_rows ws w f n 0
+unfolding write_rows
+no_rows ws w f n = refl

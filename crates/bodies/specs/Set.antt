@@ -7,7 +7,7 @@ use Rattle.model.specs.Bytes.{byte, number, words}
 use Rattle.model.specs.Body.{dimension, factors, term_count, generator_count, set_length, given_set}
 use Rattle.model.specs.Field.{bad_dimension}
 use Rattle.zonotope.specs.Counts.{WithinLimits}
-use Rattle.bodies.specs.declared.SetCounts.{SetCounts}
+use Rattle.bodies.specs.declared.counts.SetCounts.{SetCounts}
 
 -- the counts of a body
 abbrev pub counts_of : List ℕ → SetCounts
@@ -69,7 +69,3 @@ set_of b k = record {
 pub given-set : (b : List ℕ) → set_of b (counts_of b) ≡ given_set b
 unfolding given_set
 given-set b = refl
-
-pub same-counts : {n p h q : ℕ} {k : SetCounts} → n ≡ k.dimension → p ≡ k.factors → h ≡ k.terms → q ≡ k.generators
-    → ◌≡◌ {A = SetCounts} (record { dimension = n; factors = p; terms = h; generators = q }) k
-same-counts e₁ e₂ e₃ e₄ = rw (e₁, e₂, e₃, e₄)

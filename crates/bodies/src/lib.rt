@@ -10,13 +10,14 @@ ghost use Rattle.model.specs.Body.{ranged_length, given_widths};
 ghost use Rattle.model.specs.Body.{dimension, disturbance_words, given_radii};
 ghost use Rattle.model.specs.Field.{bad_dimension, all_zero, negative, negative_width, beyond};
 ghost use Rattle.zonotope.specs.Record.{pack};
-ghost use Rattle.bodies.specs.Set.{counts_of, set_counts_out, SetBody, InLimits, radii_from};
+ghost use Rattle.bodies.specs.Set.{set_counts_out, SetBody};
 ghost use Rattle.bodies.specs.Fields.{step_counts_out, StepBody, WidthsBody, radii_length, limits_out};
 ghost use Rattle.bodies.specs.Fields.{region_counts_out, region_length, RegionBody, given_normals, given_bounds};
 
+mod counts;
 mod record;
-mod tables;
 
+use crate::counts::{SetCounts, StepCounts};
 use zonotope::{PolyZonotope, arguments};
 
 // The largest identifier of a set, the largest radius of a disturbance, and the most halfspaces of a check.
@@ -27,25 +28,12 @@ const MAX_DISTURBANCE: u64 = 1048576;
 const MAX_HALFSPACES: usize = 8;
 
 // ---- a set
-// How many coordinates, factors, terms and generators a set has.
-#[derive(Clone, Copy)]
-struct SetCounts {
-    dimension: usize,
-    factors: usize,
-    terms: usize,
-    generators: usize,
-}
-
 // 4: whether a count of a set is out of limits.
 pub fn set_counts_out(b: &[u8]) -> bool
     requires { 4 ≤ length b.now }
     ensures { result ≡ set_counts_out b.now }
 {
-    let k = set_counts(b);
-    arguments::bad_dimension(k.dimension)
-        | (zonotope::MAX_FACTORS < k.factors)
-        | (zonotope::MAX_TERMS < k.terms)
-        | (zonotope::MAX_GENERATORS < k.generators)
+    SetCounts::of(b).out_of_limits()
 }
 
 // The length of a set's body.
@@ -53,8 +41,8 @@ pub fn set_length(b: &[u8]) -> usize
     requires { (4 ≤ length b.now) × (set_counts_out b.now ≡ false) }
     ensures { result ≡ set_length b.now }
 {
-    let k = set_counts(b);
-    radii_from(k) + 4 * k.dimension
+    let k = SetCounts::of(b);
+    k.radii_from() + 4 * k.dimension
 }
 
 // The set.
@@ -62,8 +50,7 @@ pub fn set(b: &[u8]) -> PolyZonotope
     requires { SetBody b.now }
     ensures { result ≡ pack (given_set b.now) }
 {
-    let k = set_counts(b);
-    record::filled(b, k)
+    record::filled(b, SetCounts::of(b))
 }
 
 // 6: whether a radius of a set is negative.
@@ -71,40 +58,18 @@ pub fn negative_radius(b: &[u8]) -> bool
     requires { SetBody b.now }
     ensures { result ≡ any negative (radius_words b.now) }
 {
-    let k = set_counts(b);
-    words::any_negative(b, radii_from(k), k.dimension)
+    let k = SetCounts::of(b);
+    words::any_negative(b, k.radii_from(), k.dimension)
 }
 
 // 6: whether an identifier of a set is too large for a file.
+#[tactic(auto, unfolding(model::specs::Body::given_set))]
 pub fn large_identifier(b: &[u8]) -> bool
     requires { SetBody b.now }
     ensures { result ≡ any (ltb file_identifiers) (given_set b.now).identifiers }
 {
-    let p = words::byte_at(b, 1);
-    words::any_above(b, 4, p, MAX_FILE_IDENTIFIER)
-}
-
-// The counts of a set.
-fn set_counts(b: &[u8]) -> SetCounts
-    requires { 4 ≤ length b.now }
-    ensures { result ≡ counts_of b.now }
-{
-    SetCounts {
-        dimension: words::byte_at(b, 0),
-        factors: words::byte_at(b, 1),
-        terms: words::byte_at(b, 2),
-        generators: words::byte_at(b, 3),
-    }
-}
-
-// Where the radii of a set stand.
-fn radii_from(k: SetCounts) -> usize
-    requires { InLimits k }
-    ensures { result ≡ radii_from k }
-{
-    let n = k.dimension;
-    let p = k.factors;
-    4 + 4 * p + 4 * n + k.terms * (p + 4 * n) + k.generators * (4 * n)
+    let k = SetCounts::of(b);
+    words::any_above(b, 4, k.factors, MAX_FILE_IDENTIFIER)
 }
 
 // ---- a step
@@ -113,9 +78,8 @@ pub fn step_counts_out(b: &[u8]) -> bool
     requires { 2 ≤ length b.now }
     ensures { result ≡ step_counts_out b.now }
 {
-    let m = words::byte_at(b, 0);
-    let n = words::byte_at(b, 1);
-    arguments::bad_dimension(m) | arguments::bad_dimension(n)
+    let k = StepCounts::of(b);
+    arguments::bad_dimension(k.rows) || arguments::bad_dimension(k.columns)
 }
 
 // The length of a step's body.
@@ -123,12 +87,11 @@ pub fn step_length(b: &[u8]) -> usize
     requires { 2 ≤ length b.now }
     ensures { result ≡ step_length b.now }
 {
-    let m = words::byte_at(b, 0);
-    let n = words::byte_at(b, 1);
-    2 + 4 * m + 4 * (m * n) + 4 * (m * n * n)
+    StepCounts::of(b).length()
 }
 
 // The entries of a step.
+#[tactic(auto, unfolding(model::specs::Body::given_step))]
 pub fn step(b: &[u8], c: &mut [i32], a: &mut [i32], q: &mut [i32])
     requires { StepBody b.now (length c.old) (length a.old) (length q.old) }
     ensures { (c.new ≡ (given_step b.now).constant) × (a.new ≡ (given_step b.now).linear)
@@ -147,12 +110,12 @@ pub fn ranged_length(b: &[u8]) -> usize
     requires { 2 ≤ length b.now }
     ensures { result ≡ ranged_length b.now }
 {
-    let m = words::byte_at(b, 0);
-    let n = words::byte_at(b, 1);
-    step_length(b) + 4 * (m * n) + 4 * (m * n * n)
+    let k = StepCounts::of(b);
+    k.length() + 4 * k.linear() + 4 * k.quadratic()
 }
 
 // The sizes of its half-widths.
+#[tactic(auto, unfolding(model::specs::Body::given_widths))]
 pub fn widths(b: &[u8], da: &mut [u32], dq: &mut [u32])
     requires { WidthsBody b.now (length da.old) (length dq.old) }
     ensures { (da.new ≡ (given_widths b.now).linear)
@@ -169,11 +132,11 @@ pub fn negative_width(b: &[u8]) -> bool
     requires { length b.now ≡ ranged_length b.now }
     ensures { result ≡ negative_width b.now }
 {
-    let m = words::byte_at(b, 0);
-    let n = words::byte_at(b, 1);
-    let linear_from = step_length(b);
-    let quadratic_from = linear_from + 4 * (m * n);
-    words::any_negative(b, linear_from, m * n) | words::any_negative(b, quadratic_from, m * n * n)
+    let k = StepCounts::of(b);
+    let linear_from = k.length();
+    let quadratic_from = linear_from + 4 * k.linear();
+    words::any_negative(b, linear_from, k.linear())
+        || words::any_negative(b, quadratic_from, k.quadratic())
 }
 
 // ---- a disturbance
@@ -194,6 +157,7 @@ pub fn radii_length(b: &[u8]) -> usize
 }
 
 // The sizes of the radii of a disturbance.
+#[tactic(auto, unfolding(model::specs::Body::given_radii))]
 pub fn radii(b: &[u8], out: &mut [u32])
     requires { (length b.now ≡ radii_length b.now) × (length out.old ≡ dimension b.now) }
     ensures { out.new ≡ given_radii b.now }
@@ -225,7 +189,7 @@ pub fn limits_out(b: &[u8]) -> bool
     requires { 2 ≤ length b.now }
     ensures { result ≡ limits_out b.now }
 {
-    (zonotope::MAX_TERMS < words::byte_at(b, 0)) | (zonotope::MAX_GENERATORS < words::byte_at(b, 1))
+    zonotope::MAX_TERMS < words::byte_at(b, 0) || zonotope::MAX_GENERATORS < words::byte_at(b, 1)
 }
 
 // ---- a check
@@ -236,7 +200,7 @@ pub fn region_counts_out(b: &[u8]) -> bool
 {
     let n = words::byte_at(b, 0);
     let count = words::byte_at(b, 1);
-    arguments::bad_dimension(n) | (count == 0) | (MAX_HALFSPACES < count)
+    arguments::bad_dimension(n) || count == 0 || MAX_HALFSPACES < count
 }
 
 // The length of a check's body.
@@ -250,12 +214,16 @@ pub fn region_length(b: &[u8]) -> usize
 }
 
 // The normals and bounds of a check.
+#[tactic(auto, unfolding(crate::specs::Fields::given_normals, crate::specs::Fields::given_bounds))]
 pub fn region(b: &[u8], normals: &mut [i32], bounds: &mut [i64])
     requires { RegionBody b.now (length normals.old) (length bounds.old) }
     ensures { (normals.new ≡ given_normals b.now) × (bounds.new ≡ given_bounds b.now) }
 {
     let n = words::byte_at(b, 0);
-    let count = bounds.len();
-    tables::put_word_rows(b, 2, 4 * n + 8, normals, n, n, count);
-    tables::put_longs(b, 2 + 4 * n, 4 * n + 8, bounds, count);
+    let halfspace = 4 * n + 8;
+    words::fill(
+        normals,
+        |x| words::word_at(b, 2 + x / n * halfspace + 4 * (x % n)),
+    );
+    words::fill(bounds, |k| words::long_at(b, 2 + k * halfspace + 4 * n));
 }

@@ -73,10 +73,9 @@ pub fn nothing_read(rt: &HostRuntime) -> Input
 pub fn named_file(rt: &HostRuntime, argument: usize) -> Input
     ensures { OfFile argument result }
 {
-    let source = named(rt, argument);
     Input {
         argument,
-        source,
+        source: named(rt, argument),
         seen: 0,
     }
 }
@@ -105,9 +104,11 @@ pub fn emit(o: Output, bytes: &[u8]) -> Emitted
     ensures { result.output ≡ wrote o bytes.now result.whole }
 {
     let whole = Print::write_all(&o.to, bytes).is_ok();
-    let sent = o.sent.wrapping_add(bytes.len() as u64);
     Emitted {
-        output: Output { to: o.to, sent },
+        output: Output {
+            sent: o.sent.wrapping_add(bytes.len() as u64),
+            ..o
+        },
         whole,
     }
 }
@@ -179,12 +180,13 @@ fn brought(i: Input, got: io::Result<usize>, buf: &[u8]) -> Filled
     ensures answer { Answered got buf.now result }
 {
     let count = came(&got, buf.len());
-    let mut input = i;
-    input.seen = input.seen.wrapping_add(count as u64);
     Filled {
         count,
         failed: got.is_err(),
-        input,
+        input: Input {
+            seen: i.seen.wrapping_add(count as u64),
+            ..i
+        },
     }
 }
 
@@ -193,7 +195,7 @@ fn came(got: &io::Result<usize>, room: usize) -> usize
     ensures { result ≡ came got.now room }
 {
     match got {
-        Ok(n) => { if *n < room { *n } else { room } }
+        Ok(n) => (*n).min(room),
         Err(_) => 0,
     }
 }

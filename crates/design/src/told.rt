@@ -41,14 +41,17 @@ pub fn outcome(rt: &impl Print, a: Answer) -> io::Result<()> {
         Outcome::Unknown => print!(rt; " unknown")?,
         Outcome::Refused(r) => refusal(rt, r)?,
         Outcome::Skipped => print!(rt; " skipped")?,
-        Outcome::Unfit(n) => print!(rt; " unfit {n}")?,
+        Outcome::Unfit(cause) => {
+            let number = cause.number();
+            print!(rt; " unfit {number}")?
+        }
     }
     println!(rt)
 }
 
 fn refusal(rt: &impl Print, r: Refusal) -> io::Result<()> {
     print!(rt; " refused")?;
-    count(rt, r.number as usize)?;
+    count(rt, usize::from(r.cause.number()))?;
     count(rt, r.place)
 }
 

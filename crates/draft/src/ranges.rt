@@ -103,8 +103,8 @@ fn in_work(
     show::number(rt, w[0])?;
     show::number(rt, w[5159])?;
     show::number(rt, w[5160])?;
-    show::byte(rt, e[0])?;
-    show::byte(rt, e[10319])?;
-    show::byte(rt, e[10320])?;
+    show::number(rt, e[0])?;
+    show::number(rt, e[10319])?;
+    show::number(rt, e[10320])?;
     println!(rt)
 }

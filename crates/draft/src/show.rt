@@ -2,85 +2,79 @@
 ghost use Rattle.std.specs.Prelude.{◌+◌, ◌≤◌, ◌<◌, length};
 
 use answers::Changed;
+use std::fmt::Display;
 use std::io;
 use verdicts::Verdict;
-use zonotope::{Examined, PolyZonotope, Radii};
+use zonotope::{Cause, PolyZonotope, Radii};
 
 // A number after a blank.
-pub fn number(rt: &impl Print, v: i64) -> io::Result<()> {
-    print!(rt; " {v}")
-}
-
-// The same of a number that is never negative.
-fn natural(rt: &impl Print, n: u32) -> io::Result<()> {
+pub fn number<N: Display + Drop>(rt: &impl Print, n: N) -> io::Result<()> {
     print!(rt; " {n}")
 }
 
-// A byte after a blank.
-pub fn byte(rt: &impl Print, b: u8) -> io::Result<()> {
-    print!(rt; " {b}")
+// Numbers, each after a blank.
+fn numbers<N: Display + Copy + Drop>(rt: &impl Print, xs: &[N]) -> io::Result<()> {
+    for x in xs {
+        number(rt, *x)?;
+    }
+    Ok(())
 }
 
-// A count after a blank.
-fn count(rt: &impl Print, n: usize) -> io::Result<()> {
-    print!(rt; " {n}")
-}
-
-// A refusal and its number.
-fn refusal(rt: &impl Print, n: u8) -> io::Result<()> {
-    print!(rt; " refused {n}")
+// A refusal and the number of its cause.
+fn refusal(rt: &impl Print, cause: Cause) -> io::Result<()> {
+    let number = cause.number();
+    print!(rt; " refused {number}")
 }
 
 // The end of a line: a refusal.
-fn refused(rt: &impl Print, n: u8) -> io::Result<()> {
-    refusal(rt, n)?;
+fn refused(rt: &impl Print, cause: Cause) -> io::Result<()> {
+    refusal(rt, cause)?;
     println!(rt)
 }
 
 // That a set was accepted, or its refusal.
-pub fn outcome(rt: &impl Print, o: Examined) -> io::Result<()> {
+pub fn outcome(rt: &impl Print, o: Result<(), Cause>) -> io::Result<()> {
     match o {
-        Examined::Accepted => print!(rt; " accepted"),
-        Examined::Refused(n) => refusal(rt, n),
+        Ok(()) => print!(rt; " accepted"),
+        Err(cause) => refusal(rt, cause),
     }
 }
 
 // The end of a line: what examining a set said.
-pub fn examined(rt: &impl Print, o: Examined) -> io::Result<()> {
+pub fn examined(rt: &impl Print, o: Result<(), Cause>) -> io::Result<()> {
     outcome(rt, o)?;
     println!(rt)
 }
 
 // The end of a line: what a check said.
-pub fn judged(rt: &impl Print, v: Verdict) -> io::Result<()> {
+pub fn judged(rt: &impl Print, v: Result<Verdict, Cause>) -> io::Result<()> {
     match v {
-        Verdict::Safe => println!(rt; " safe"),
-        Verdict::Unknown => println!(rt; " unknown"),
-        Verdict::Refused(n) => refused(rt, n),
+        Ok(Verdict::Safe) => println!(rt; " safe"),
+        Ok(Verdict::Unknown) => println!(rt; " unknown"),
+        Err(cause) => refused(rt, cause),
     }
 }
 
-// The end of a line: the ends of the first two coordinates.
+// The end of a line: the ends of the first two coordinates, or the refusal of the set.
 pub fn ends(rt: &impl Print, s: PolyZonotope) -> io::Result<()> {
-    let b = bounds::box_of(s);
-    number(rt, b.low[0])?;
-    number(rt, b.high[0])?;
-    number(rt, b.low[1])?;
-    number(rt, b.high[1])?;
-    println!(rt)
+    match bounds::box_of(s) {
+        Ok(b) => {
+            numbers(rt, &[b.low[0], b.high[0], b.low[1], b.high[1]])?;
+            println!(rt)
+        }
+        Err(cause) => refused(rt, cause),
+    }
 }
 
 // The end of a line: how many factors, terms and generators a changed set has, and its ends; or the refusal.
 pub fn changed(rt: &impl Print, c: Changed) -> io::Result<()> {
     let s = c.set;
     match c.outcome {
-        Examined::Accepted => {
-            count(rt, s.factors)?;
-            count(rt, s.terms)?;
-            count(rt, s.generators)?;
+        Ok(()) => {
+            numbers(rt, &[s.factors, s.terms, s.generators])?;
             ends(rt, s)
         }
-        Examined::Refused(n) => refused(rt, n),
+        Err(cause) => refused(rt, cause),
     }
 }
 
@@ -89,11 +83,11 @@ pub fn changed(rt: &impl Print, c: Changed) -> io::Result<()> {
 // A line for each part of the set; or the refusal.
 pub fn whole_set(rt: &impl Print, c: Changed) -> io::Result<()> {
     match c.outcome {
-        Examined::Accepted => {
+        Ok(()) => {
             println!(rt)?;
             parts(rt, c.set)
         }
-        Examined::Refused(n) => refused(rt, n),
+        Err(cause) => refused(rt, cause),
     }
 }
 
@@ -116,9 +110,9 @@ fn parts(rt: &impl Print, s: PolyZonotope) -> io::Result<()> {
         return Ok(());
     }
     print!(rt; "  identifiers")?;
-    naturals(rt, &s.identifiers, p)?;
+    numbers(rt, &s.identifiers[..p])?;
     print!(rt; "\n  centre")?;
-    numbers(rt, &s.centre, 0, n)?;
+    numbers(rt, &s.centre[..n])?;
     terms(rt, s, h, p, n)?;
     generators(rt, s, q, n)?;
     radii(rt, s.radii, n)?;
@@ -130,13 +124,13 @@ fn radii(rt: &impl Print, r: Radii, n: usize) -> io::Result<()>
     requires { n ≤ 6 }
 {
     print!(rt; "\n  carried")?;
-    naturals(rt, &r.carried, n)?;
+    numbers(rt, &r.carried[..n])?;
     print!(rt; "\n  rounded")?;
-    naturals(rt, &r.rounded, n)?;
+    numbers(rt, &r.rounded[..n])?;
     print!(rt; "\n  folded")?;
-    naturals(rt, &r.folded, n)?;
+    numbers(rt, &r.folded[..n])?;
     print!(rt; "\n  given")?;
-    naturals(rt, &r.given, n)
+    numbers(rt, &r.given[..n])
 }
 
 // A line for each term.
@@ -154,9 +148,9 @@ fn term(rt: &impl Print, s: PolyZonotope, t: usize, p: usize, n: usize) -> io::R
     requires { (t < 40) × (p ≤ 12) × (n ≤ 6) }
 {
     print!(rt; "\n  term")?;
-    exponents(rt, &s.exponents, t * 12, p)?;
+    numbers(rt, &s.exponents[t * 12..t * 12 + p])?;
     print!(rt; " :")?;
-    numbers(rt, &s.coefficients, t * 6, n)
+    numbers(rt, &s.coefficients[t * 6..t * 6 + n])
 }
 
 // A line for each generator.
@@ -174,35 +168,5 @@ fn generator(rt: &impl Print, s: PolyZonotope, g: usize, n: usize) -> io::Result
     requires { (g < 24) × (n ≤ 6) }
 {
     print!(rt; "\n  generator")?;
-    numbers(rt, &s.vectors, g * 6, n)
-}
-
-// The first n of the numbers.
-fn naturals(rt: &impl Print, xs: &[u32], n: usize) -> io::Result<()>
-    requires { n ≤ length xs.now }
-{
-    for x in &xs[..n] {
-        natural(rt, *x)?;
-    }
-    Ok(())
-}
-
-// n of the numbers, from a place on.
-fn numbers(rt: &impl Print, xs: &[i32], from: usize, n: usize) -> io::Result<()>
-    requires { from + n ≤ length xs.now }
-{
-    for x in &xs[from..from + n] {
-        number(rt, i64::from(*x))?;
-    }
-    Ok(())
-}
-
-// n of the exponents, from a place on.
-fn exponents(rt: &impl Print, xs: &[u8], from: usize, n: usize) -> io::Result<()>
-    requires { from + n ≤ length xs.now }
-{
-    for x in &xs[from..from + n] {
-        byte(rt, *x)?;
-    }
-    Ok(())
+    numbers(rt, &s.vectors[g * 6..g * 6 + n])
 }

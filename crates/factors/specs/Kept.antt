@@ -2,7 +2,6 @@
 use Rattle.std.specs.Prelude.{List, [], ◌∷◌, map, Bool, true, false, cond, ◌≡◌, refl, ℕ, zero, suc, ◌+◌, ◌<◌, ◌≤◌, length, get_or}
 use Rattle.std.proofs.Common.{sym, ap, ap₂, ◌∙◌, arith, add-one}
 use Rattle.std.proofs.lemmas.List.{length-map}
-use Rattle.std.proofs.Math.ListN.{get_or-eq_default}
 use Rattle.whole.specs.Tab.{tab, length-tab, get_d_tab}
 use Rattle.model.specs.Finish.{those, keep_at}
 use Rattle.model.specs.Motion.{places}
@@ -61,20 +60,10 @@ kept_front p f m n l h = kept-tab p n f ∙ ap (map f) (same n l) ∙ sym (kept-
         (λ (d : m < suc n). ap (chosen p) (sym (add-one n)) ∙ chosen_out p n (h n (omega arith)) ∙ same n (omega arith))
         (λ (d : suc n ≤ m). let e : suc n ≡ m = omega arith in ap (chosen p) e)
 
-map_at : {A B : Type 0} (f : A → B) (l : List A) (i : ℕ) (d : A) (b : B) → i < length l → get_or (map f l) i b ≡ f (get_or l i d)
+pub map_at : {A B : Type 0} (f : A → B) (l : List A) (i : ℕ) (d : A) (b : B) → i < length l → get_or (map f l) i b ≡ f (get_or l i d)
 map_at f [] i d b h = absurd (omega arith)
 map_at f (a ∷ l) zero d b h = refl
 map_at f (a ∷ l) (suc i) d b h = map_at f l i d b (omega arith)
-
--- place i of what is kept
-module _ (p : ℕ → Bool) (n : ℕ) (f : ℕ → ℕ) (i : ℕ) where
-  pub kept_at : i < length (chosen p n) → get_or (keep_at p 0 (tab n f)) i 0 ≡ f (get_or (chosen p n) i 0)
-  kept_at h = ap (λ (l : List ℕ). get_or l i 0) (kept-tab p n f) ∙ map_at f (chosen p n) i 0 0 h
-
-  pub kept_past : length (chosen p n) ≤ i → get_or (keep_at p 0 (tab n f)) i 0 ≡ 0
-  kept_past h =
-      ap (λ (l : List ℕ). get_or l i 0) (kept-tab p n f)
-      ∙ get_or-eq_default (map f (chosen p n)) 0 (omega (arith, length-map (chosen p n) f))
 
 -- how many are kept
 pub kept-length : (p : ℕ → Bool) (n : ℕ) (f : ℕ → ℕ) → length (keep_at p 0 (tab n f)) ≡ length (chosen p n)

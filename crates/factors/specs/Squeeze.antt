@@ -1,61 +1,55 @@
 -- Chosen places listed in an array, and arrays filled with what stands there, the rest 0.
-use Rattle.std.specs.Prelude.{List, [], ◌∷◌, Bool, true, false, ◌≡◌, ℕ, ◌+◌, ◌*◌, ◌/◌, ◌%◌, ◌<◌, ◌≤◌, length, get_or, set}
-use Rattle.std.proofs.Common.{sym, ap, ◌∙◌, arith, length-append, ext_get_or, get_or-set_same, get_or-set_other}
+use Rattle.std.specs.Prelude.{List, [], ◌∷◌, ◌++◌, map, Bool, true, false, cond, ◌≡◌, ℕ, zero, suc, ◌+◌, ◌*◌, ◌/◌, ◌%◌, ◌<◌, ◌≤◌, length, get_or, set, take}
+use Rattle.std.proofs.Common.{sym, ap, ◌∙◌, add-one, arith, ext_get_or, take-suc-set}
 use Rattle.std.proofs.Math.Decide.{dec_lt}
-use Rattle.std.proofs.Math.ListN.{get_or-append}
-use Rattle.std.proofs.lemmas.List.{get_or_at}
+use Rattle.std.proofs.Math.ListN.{get_or-eq_default}
+use Rattle.std.proofs.lemmas.List.{length-map}
 use Rattle.whole.specs.Tab.{tab, length-tab, get_d_tab, get_d_tab_past}
 use Rattle.whole.specs.Write.{write, write-length, write-at, write-before, write-after}
-use Rattle.model.specs.Finish.{keep_at}
-use Rattle.fold.specs.Marks.{marks_more}
-use Rattle.fold.specs.Chosen.{chosen, chosen_in, chosen_out, chosen_none}
-use Rattle.factors.specs.Kept.{kept_at, kept_past}
+use Rattle.rational.specs.Sum.{All, none, more}
+use Rattle.model.specs.Finish.{those}
+use Rattle.model.specs.Motion.{places}
+use Rattle.model.proofs.WholeForms.{All-places}
+use Rattle.fold.specs.Chosen.{chosen, chosen_in, chosen_out, those-all}
+use Rattle.factors.specs.Kept.{map_at}
 
--- ---- the chosen places of k, listed in an array
-pub record Listed (p : ℕ → Bool) (k m : ℕ) (xs : List ℕ) : Type 0 where
-  pub count_is : m ≡ length (chosen p k)
-  pub few : m ≤ k
-  pub place : (i : ℕ) → i < m → get_or xs i 0 ≡ get_or (chosen p k) i 0
-  pub below : (i : ℕ) → i < m → get_or xs i 0 < k
+-- ---- the chosen places of twelve, listed in an array
+-- each is the place of one of twelve factors
+pub record FactorPlaces (xs : List ℕ) : Type 0 where
+  pub few : length xs ≤ 12
+  pub below : (i : ℕ) → i < length xs → get_or xs i 0 < 12
 
-module _ (p : ℕ → Bool) where
-  pub listed_start : (xs : List ℕ) → Listed p 0 0 xs
-  listed_start xs = record {
-    count_is = sym (ap length (chosen_none p));
-    few = omega arith;
-    place = λ i h. absurd (omega arith);
-    below = λ i h. absurd (omega arith);
-  }
+those_few : {A : Type 0} (p : A → Bool) (l : List A) → length (those p l) ≤ length l
+unfolding those
+those_few p [] = omega arith
+those_few {A} p (x ∷ l) = go (p x) (those_few p l)
+  where
+    go : (b : Bool) → length (those p l) ≤ length l → length (cond b (x ∷ those p l) (those p l)) ≤ suc (length l)
+    go true h = omega arith
+    go false h = omega arith
 
-  module _ {k m : ℕ} {xs : List ℕ} (v : Listed p k m xs) where
-    pub listed_out : p k ≡ false → Listed p (k + 1) m xs
-    listed_out e =
-        let few = v.few in
-        record {
-          count_is = v.count_is ∙ sym (ap length (chosen_out p k e));
-          few = omega arith;
-          place = λ i h. v.place i h ∙ ap (λ (l : List ℕ). get_or l i 0) (sym (chosen_out p k e));
-          below = λ i h. omega (arith, v.below i h);
-        }
+all_at : {P : ℕ → Type 0} {l : List ℕ} → All P l → (i : ℕ) → i < length l → P (get_or l i 0)
+all_at none i h = absurd (omega arith)
+all_at (more h t) zero g = h
+all_at (more h t) (suc i) g = all_at t i (omega arith)
 
-    pub listed_in : p k ≡ true → m < length xs → Listed p (k + 1) (m + 1) (set xs m k)
-    listed_in e l =
-        let few = v.few in
-        let count = v.count_is in
-        record {
-          count_is = ap (◌+ 1) v.count_is ∙ sym (ap length (chosen_in p k e) ∙ length-append (chosen p k) (k ∷ []));
-          few = omega arith;
-          place = λ i h.
-              marks_more 0 (λ i. get_or (chosen p (k + 1)) i 0) xs m k
-              (λ j d. v.place j d
-              ∙ sym (ap (λ (l : List ℕ). get_or l j 0) (chosen_in p k e) ∙ get_or-append (chosen p k) (k ∷ []) 0 j (omega (arith, count))))
-              l (sym (ap (λ (l : List ℕ). get_or l m 0) (chosen_in p k e) ∙ get_or_at (chosen p k) k [] 0 m (sym count))) i h;
-          below = λ i h. go i (dec_lt i m) h;
-        }
-      where
-        go : (i : ℕ) → Dec (i < m) → i < m + 1 → get_or (set xs m k) i 0 < k + 1
-        go i (yes d) h = rw (get_or-set_other xs m i k 0 (λ (q : i ≡ m). omega arith)) (omega (arith, v.below i d))
-        go i (no d) h = let q : i ≡ m = omega arith in rw (q, get_or-set_same xs m k 0 l) (omega arith)
+pub chosen_places : (p : ℕ → Bool) → FactorPlaces (chosen p 12)
+chosen_places p = record {
+  few = omega (arith, those_few p (places 12), length-tab 12 (λ (i : ℕ). i));
+  below = all_at (those-all p (All-places 12 (λ i h. h)));
+}
+
+-- one place more
+module _ (p : ℕ → Bool) (xs : List ℕ) (m k : ℕ) (h : take m xs ≡ chosen p k) where
+  pub listed_out : p k ≡ false → take m xs ≡ chosen p (k + 1)
+  listed_out e = h ∙ sym (chosen_out p k e)
+
+  pub listed_in : p k ≡ true → m < length xs → take (m + 1) (set xs m k) ≡ chosen p (k + 1)
+  listed_in e l =
+      ap (λ (n : ℕ). take n (set xs m k)) (add-one m)
+      ∙ take-suc-set xs m k l
+      ∙ ap (λ (l : List ℕ). l ++ (k ∷ [])) h
+      ∙ sym (chosen_in p k e)
 
 -- ---- rows of 12 in an array of 480
 -- the array that holds the first n rows of f
@@ -123,10 +117,10 @@ padded-all zs n g xs m l z h here past =
         ap (λ (j : ℕ). get_or (write zs 0 g m) j 0) (sym e) ∙ write-at zs 0 g 0 m i d (omega arith) ∙ here i d
     at i (no d) = write-after zs 0 g 0 m i (omega arith) ∙ z i ∙ sym (past i (omega arith))
 
--- what stands at listed places is what is kept
-module _ (p : ℕ → Bool) (n : ℕ) (f : ℕ → ℕ) {m : ℕ} {xs : List ℕ} (v : Listed p n m xs) where
-  pub listed_here : (i : ℕ) → i < m → f (get_or xs i 0) ≡ get_or (keep_at p 0 (tab n f)) i 0
-  listed_here i h = let c = v.count_is in ap f (v.place i h) ∙ sym (kept_at p n f i (omega arith))
+-- what a map gives at a place, and past its end
+module _ (f : ℕ → ℕ) (xs : List ℕ) where
+  pub mapped_here : (i : ℕ) → i < length xs → f (get_or xs i 0) ≡ get_or (map f xs) i 0
+  mapped_here i h = sym (map_at f xs i 0 0 h)
 
-  pub listed_past : (i : ℕ) → m ≤ i → get_or (keep_at p 0 (tab n f)) i 0 ≡ 0
-  listed_past i h = let c = v.count_is in kept_past p n f i (omega arith)
+  pub mapped_past : (i : ℕ) → length xs ≤ i → get_or (map f xs) i 0 ≡ 0
+  mapped_past i h = get_or-eq_default (map f xs) 0 (omega (arith, length-map xs f))

@@ -13,8 +13,10 @@ use Rattle.model.specs.Finish.{keep_at, keep_exponents}
 use Rattle.rows.specs.Rows.{exponent_row, term_of, terms}
 use Rattle.fold.specs.Marks.{at}
 use Rattle.whole.specs.Tests.{any_found, any_none}
-use Rattle.factors.specs.Kept.{kept_cong, kept-length}
-use Rattle.factors.specs.Squeeze.{Listed, rows_array}
+use Rattle.std.proofs.lemmas.List.{length-map}
+use Rattle.fold.specs.Chosen.{chosen}
+use Rattle.factors.specs.Kept.{kept_cong, kept-tab}
+use Rattle.factors.specs.Squeeze.{rows_array}
 
 -- ---- which factors occur
 -- the factor at place j of twelve
@@ -69,20 +71,23 @@ module _ (e heads : List ℕ) (s : List ℤ) (n : ℕ) (used : List Bool) (u : u
   used-at : (i : ℕ) → i < 12 → at used i ≡ occurs (terms e heads s n) i
   used-at i h = ap (λ (l : List Bool). at l i) u ∙ get_d_tab 12 (occurs (terms e heads s n)) false i h
 
-  -- what was squeezed by the marks
-  pub without_unused : (ids : List ℕ) {count : ℕ} {places ids' exponents : List ℕ} → Listed (at used) 12 count places →
-      ids' ≡ twelve (keep_at (at used) 0 (twelve ids)) → exponents ≡ rows_array (λ k. keep_at (at used) 0 (exponent_row e (get_or heads k 0))) n →
+  -- what was squeezed by the places of the marks
+  pub without_unused : (ids : List ℕ) {count : ℕ} {places ids' exponents : List ℕ} → count ≡ length places → places ≡ chosen (at used) 12 →
+      ids' ≡ twelve (map (λ j. get_or ids j 0) places) →
+      exponents ≡ rows_array (λ k. map (λ j. get_or e (get_or heads k 0 * 12 + j) 0) places) n →
       WithoutUnused (terms e heads s n) ids count ids' exponents
   unfolding terms
-  without_unused ids v p q =
+  without_unused ids {places = places} c l p q =
       let o = occurs (terms e heads s n) in
-      let same = kept_cong (at used) o 12 (λ j. get_or ids j 0) used-at in
+      let kept : (f : ℕ → ℕ) → map f places ≡ keep_at o 0 (tab 12 f) =
+      λ f. ap (map f) l ∙ sym (kept-tab (at used) 12 f) ∙ kept_cong (at used) o 12 f used-at in
+      let id : ℕ → ℕ = λ j. get_or ids j 0 in
       record {
-        count_is = v.count_is ∙ sym (kept-length (at used) 12 (λ j. get_or ids j 0)) ∙ ap length same;
-        identifiers_are = p ∙ ap twelve same;
+        count_is = c ∙ sym (length-map places id) ∙ ap length (kept id);
+        identifiers_are = p ∙ ap twelve (kept id);
         exponents_are =
             q
             ∙ ap (λ (l : List (List ℕ)). tab 480 (λ x. get_or (get_or l (x / 12) []) (x % 12) 0))
-            (tab_cong n _ _ (λ k h. kept_cong (at used) o 12 (λ j. get_or e (get_or heads k 0 * 12 + j) 0) used-at))
+            (tab_cong n _ _ (λ k h. kept (λ j. get_or e (get_or heads k 0 * 12 + j) 0)))
             ∙ rows-exponents o n (λ k. term_of e s (get_or heads k 0) k);
       }

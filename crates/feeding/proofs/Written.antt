@@ -31,7 +31,7 @@ use Rattle.advance.specs.Advanced.{advanced}
 use Rattle.printing.specs.Line.{answer_line}
 use Rattle.printing.proofs.Brief.{sound_sides}
 use Rattle.feeding.specs.declared.Progress.{Progress}
-use Rattle.feeding.specs.declared.Fed.{Fed}
+use Rattle.feeding.specs.declared.machine.Fed.{Fed}
 use Rattle.streams.specs.Machine.{Turns}
 use Rattle.feeding.specs.Fed.{closed, field_taken, between, one_turn}
 use Rattle.feeding.specs.Reached.{Reached, Placed, longest_field}
@@ -94,16 +94,16 @@ field_done p f {before} {after} {at} {k} {answer = answer} n a s e x = record {
 }
 
 -- ---- one turn
-pub turn_done : (p : Progress) (rest : List ℕ) {t : Turns Progress} {before after : List ℕ} {at : ℕ} {r : Fed} → one_turn p rest ≡ t
+pub turn_done : (p : Progress) (rest : List ℕ) {t : Turns Progress} {before after : List ℕ} {at : ℕ} {r : Fed Progress} → one_turn p rest ≡ t
     → Done longest_line t before after at r → Done longest_line (one_turn p rest) before after at r
 turn_done p rest {before = before} {after} {at} {r} e d = subst (λ (t : Turns Progress). Done longest_line t before after at r) (sym e) d
 
-pub turn_placed : {t : Turns Progress} {before after : List ℕ} {at : ℕ} {r : Fed} → Done longest_line t before after at r → Placed t.progress
+pub turn_placed : {t : Turns Progress} {before after : List ℕ} {at : ℕ} {r : Fed Progress} → Done longest_line t before after at r → Placed t.progress
     → Placed r.progress
 turn_placed d h = subst Placed (sym d.progress) h
 
 -- after the `end` line no place matters
-pub closed-placed : (p : Progress) {before after : List ℕ} {at : ℕ} {r : Fed} → Done longest_line (closed p) before after at r
+pub closed-placed : (p : Progress) {before after : List ℕ} {at : ℕ} {r : Fed Progress} → Done longest_line (closed p) before after at r
     → Placed r.progress
 closed-placed p d = turn_placed d (λ e. absurd (true≢false e))
 

@@ -1,27 +1,26 @@
 -- What a body with a set in it is answered, and what the code asks of it.
-use Rattle.std.specs.Prelude.{◌≡◌, refl, Bool, true, false, ◌||◌, ℕ, ◌≤◌, ltb, length}
+use Rattle.std.specs.Prelude.{◌≡◌, refl, Bool, true, false, ◌||◌, ℕ, ◌≤◌, length, Result, Ok, Err, ⊤}
 use Rattle.std.proofs.Common.{sym, ◌∙◌, subst, eq-eqb, ne_eqb}
 use Rattle.std.proofs.Math.Path.{ap}
 use mathlib.Core.List.{List, [], ◌∷◌, ◌++◌}
 use Rattle.std.proofs.Math.Option.{Option, none, some}
+use Rattle.std.specs.Result.{IsErrAnd}
 use Rattle.std.proofs.Math.Bool.{or-true, or-false, or_assoc}
 use Rattle.whole.specs.Tab.{any}
 use Rattle.whole.specs.Tests.{or_left}
-use Rattle.model.specs.Limits.{file_identifiers, record_identifiers}
+use Rattle.model.specs.Limits.{record_identifiers}
 use Rattle.model.specs.Set.{Zonotope}
 use Rattle.model.specs.Valid.{bad_range, bad_order, is_too_wide}
 use Rattle.model.specs.Body.{dimension, set_length, radius_words, given_set}
 use Rattle.model.specs.Field.{start, meaning, of_set, differs, negative}
-use Rattle.model.specs.Run.{Cause, ◌if◌, first_of, of_body, no_set}
+use Rattle.model.specs.Run.{◌if◌, first_of, of_body, no_set}
 use Rattle.model.specs.Library.{Given, examine}
 use Rattle.zonotope.specs.declared.PolyZonotope.{PolyZonotope}
-use Rattle.zonotope.specs.declared.Examined.{Examined}
-use Rattle.zonotope.specs.declared.Examined.TheVariants.{Accepted, Refused}
+use Rattle.zonotope.specs.declared.Cause as Zonotopes
 use Rattle.zonotope.specs.Valid.{Unrefused, passed}
 use Rattle.zonotope.specs.Record.{view, pack, given}
-use Rattle.zonotope.specs.Answer.{examined, or_else, first_append}
-use Rattle.answers.specs.declared.Changed.{Changed}
-use Rattle.answers.specs.Answer.{of_result, answered, is_refused, none_refuses, answer-refused, answer-next}
+use Rattle.zonotope.specs.Answer.{Examined, Refused, cause_of, examined, or_else, first_append, nothing_found, passed_on}
+use Rattle.answers.specs.Answer.{of_result, resulted, result-refused}
 use Rattle.answers.specs.Order.{neither}
 use Rattle.answers.specs.Accepted.{equal}
 use Rattle.answers.specs.Accepted as records
@@ -29,7 +28,7 @@ use Rattle.summing.specs.Summable.{Summable}
 use Rattle.bodies.specs.Set.{set_counts_out, SetBody}
 use Rattle.bodies.specs.Given.{given_record, given-counts, given-view, file_range, pack_sized}
 use Rattle.fields.specs.Refusal.{body_refusal}
-use Rattle.fields.specs.Layout.{layout, laid_out}
+use Rattle.fields.specs.Layout.{laid_out}
 use Rattle.fields.specs.Sets.{of_layout, beyond_range, of_contents, of_summand, beyond_file}
 
 -- ---- the layout
@@ -61,28 +60,26 @@ module _ {b : List ℕ} (s : SetBody b) where
       ∙ rw (given-counts b, s.counts, range_parts b, e, or-false (bad_range record_identifiers (given_set b)))
 
 -- ---- the answer for the contents
-module _ (b : List ℕ) {r : Examined} (from : r ≡ examined (first_of (of_contents b))) where
-  pub read_refused : is_refused r ≡ true → {x : PolyZonotope} → x ≡ pack no_set
-      → ◌≡◌ {A = Changed} (record { outcome = r; set = x }) (answered (first_of (of_contents b)) (pack no_set) (given_set b))
-  read_refused e {x} p = rw p (answer-refused (first_of (of_contents b)) none from (sym (or_else_none (first_of (of_contents b))))
-      (pack no_set) (given_set b) e)
+module _ (b : List ℕ) where
+  pub read_refused : {c : Zonotopes.Cause} {r : Result PolyZonotope Zonotopes.Cause} → Err c ≡ examined (first_of (of_contents b))
+      → IsErrAnd r (λ e. e ≡ c) → r ≡ resulted (first_of (of_contents b)) (given_set b)
+  read_refused e f = passed_on (λ o. resulted o (given_set b)) (λ n. refl) (first_of (of_contents b)) e f
 
-  pub read_accepted : is_refused r ≡ false → {x : PolyZonotope} → x ≡ pack (given_set b)
-      → ◌≡◌ {A = Changed} (record { outcome = Accepted; set = x }) (answered (first_of (of_contents b)) (pack no_set) (given_set b))
-  read_accepted e {x} p = rw (p, none_refuses (first_of (of_contents b)) from e)
+  pub read_accepted : {u : ⊤} → Ok u ≡ examined (first_of (of_contents b)) → {x : PolyZonotope} → x ≡ pack (given_set b)
+      → Ok x ≡ resulted (first_of (of_contents b)) (given_set b)
+  read_accepted e {x} p = rw (p, nothing_found (first_of (of_contents b)) e)
 
 -- ---- the summand: its layout, 5, its contents
-module _ (n : ℕ) (b : List ℕ) (x : PolyZonotope) (m : Zonotope) where
+module _ (n : ℕ) (b : List ℕ) (m : Zonotope) where
   pub summand_order : first_of (of_summand n b) ≡ or_else (first_of (of_layout b)) (first_of ((5 if differs (dimension b) n) ∷ of_contents b))
   summand_order = first_append (of_layout b) ((5 if differs (dimension b) n) ∷ of_contents b)
 
-  pub other_dimension : (dimension b ≡ n → ⊥)
-      → ◌≡◌ {A = Changed} (record { outcome = Refused 5; set = x }) (answered (first_of ((5 if differs (dimension b) n) ∷ of_contents b)) x m)
+  pub other_dimension : (dimension b ≡ n → ⊥) → Err (cause_of 5) ≡ resulted (first_of ((5 if differs (dimension b) n) ∷ of_contents b)) m
   unfolding first_of
   other_dimension h = rw (ne_eqb (dimension b) n h)
 
-  pub same-dimension : dimension b ≡ n → {r : Changed} → r ≡ answered (first_of (of_contents b)) x m
-      → r ≡ answered (first_of ((5 if differs (dimension b) n) ∷ of_contents b)) x m
+  pub same-dimension : dimension b ≡ n → {r : Result PolyZonotope Zonotopes.Cause} → r ≡ resulted (first_of (of_contents b)) m
+      → r ≡ resulted (first_of ((5 if differs (dimension b) n) ∷ of_contents b)) m
   unfolding first_of
   same-dimension h e = rw (eq-eqb (dimension b) n h) e
 
@@ -114,19 +111,15 @@ module _ (b : List ℕ) where
       ∙ ap (or_else (first_of (of_summand n b))) (first_append ((9 if many) ∷ []) result)
 
 -- ---- answers, by what is asked first
--- what a reading says of its causes, and the set that it gives
-pub said : (o : Option ℕ) (s : PolyZonotope) (m : Zonotope) {g : Changed} → g ≡ answered o s m → g.outcome ≡ examined o
-said none s m p = ap (λ (g : Changed). g.outcome) p
-said (some n) s m p = ap (λ (g : Changed). g.outcome) p
+-- what a reading that gave a set says: nothing refused it
+pub read-none : (o : Option ℕ) (m : Zonotope) {t : PolyZonotope} → Ok t ≡ resulted o m → (o ≡ none) × (t ≡ pack m)
+read-none none m e = (refl, cc)
+read-none (some n) m e = absurd cc
 
-pub read_set : (o : Option ℕ) (s : PolyZonotope) (m : Zonotope) {g : Changed} → g ≡ answered o s m → o ≡ none → g.set ≡ pack m
-read_set o s m p e = ap (λ (g : Changed). g.set) (p ∙ ap (λ o. answered o s m) e)
-
--- a refusal with the record of no set
-module _ (o p : Option ℕ) {w : Option ℕ} {r : Examined} (from : r ≡ examined o) (order : w ≡ or_else o p) (m : Zonotope) where
-  pub refused_empty : is_refused r ≡ true → {x : PolyZonotope} → x ≡ pack no_set
-      → ◌≡◌ {A = Changed} (record { outcome = r; set = x }) (answered w (pack no_set) m)
-  refused_empty e q = rw q (answer-refused o p from order (pack no_set) m e)
+-- or one that gave a cause
+pub read-some : (o : Option ℕ) (m : Zonotope) {c : Zonotopes.Cause} → Err c ≡ resulted o m → Err c ≡ examined o
+read-some none m e = absurd cc
+read-some (some n) m {c} e = let d : c ≡ cause_of n = cc in rw d
 
 -- the summand of a sum that nothing refuses
 pub summand_accepted : (n : ℕ) (b : List ℕ) → first_of (of_summand n b) ≡ none → SetBody b × records.AcceptedRecord (pack (given_set b)) ×
@@ -162,8 +155,7 @@ second_summable first b a e p =
     rw p (record { first = a; second = s.1; same = s.2 })
 
 -- ---- one set of the current one and the body's: whether they have too many factors, and what is made of them, by the body's set
-module _ (first : PolyZonotope) (b : List ℕ) (many : Zonotope → Bool) (made : Zonotope → Zonotope) (next : ℕ) {g : Changed}
-    (from : g ≡ answered (first_of (of_summand first.dimension b)) (pack no_set) (given_set b)) where
+module _ (first : PolyZonotope) (b : List ℕ) (many : Zonotope → Bool) (made : Zonotope → Zonotope) (next : ℕ) where
   abbrev own : Option ℕ
   own = first_of (of_summand first.dimension b)
 
@@ -174,31 +166,28 @@ module _ (first : PolyZonotope) (b : List ℕ) (many : Zonotope → Bool) (made 
   abbrev refusal : Option ℕ
   refusal = first_of (of_body (of_set b (differs (dimension b) first.dimension) (many (given_set b)) (made (given_set b)) [] next) (length b))
 
-  outcome_is : g.outcome ≡ examined own
-  outcome_is = said own (pack no_set) (given_set b) from
-
   order : refusal ≡ or_else own (later (given_set b))
   order = made_order b first.dimension (many (given_set b)) (made (given_set b)) next
 
   -- the body's set is refused
-  pub made_refused : is_refused g.outcome ≡ true
-      → ◌≡◌ {A = Changed} (record { outcome = g.outcome; set = first }) (answered refusal first (made (given_set b)))
-  made_refused = answer-refused own (later (given_set b)) outcome_is order first (made (given_set b))
+  pub made_refused : {c : Zonotopes.Cause} {r : Result PolyZonotope Zonotopes.Cause} → Err c ≡ resulted own (given_set b)
+      → IsErrAnd r (λ e. e ≡ c) → r ≡ resulted refusal (made (given_set b))
+  made_refused e f = result-refused own (later (given_set b)) order (made (given_set b)) (read-some own (given_set b) e) f
 
   -- or it can be used
-  module _ (yes : is_refused g.outcome ≡ false) where
+  module _ {t : PolyZonotope} (yes : Ok t ≡ resulted own (given_set b)) where
     abbrev unrefused : own ≡ none
-    unrefused = none_refuses own outcome_is yes
+    unrefused = (read-none own (given_set b) yes).0
 
-    pub made_summable : records.AcceptedRecord first → Summable first g.set
-    made_summable a = second_summable first b a unrefused (read_set own (pack no_set) (given_set b) from unrefused)
+    pub made_summable : records.AcceptedRecord first → Summable first t
+    made_summable a = second_summable first b a unrefused (read-none own (given_set b) yes).1
 
-    pub made_answered : {r : Changed} → r ≡ answered (later (view g.set)) first (made (view g.set))
-        → r ≡ answered refusal first (made (given_set b))
+    pub made_answered : {r : Result PolyZonotope Zonotopes.Cause} → r ≡ resulted (later (view t)) (made (view t))
+        → r ≡ resulted refusal (made (given_set b))
     made_answered p =
-        answer-next own (later (given_set b)) outcome_is order first (made (given_set b)) yes
-        (p ∙ ap (λ (u : Zonotope). answered (later u) first (made u)) same)
+        p ∙ ap (λ (u : Zonotope). resulted (later u) (made u)) same
+        ∙ ap (λ o. resulted (or_else o (later (given_set b))) (made (given_set b))) (sym unrefused)
+        ∙ ap (λ o. resulted o (made (given_set b))) (sym order)
       where
-        same : view g.set ≡ given_set b
-        same = ap view (read_set own (pack no_set) (given_set b) from unrefused)
-            ∙ given-view b (summand_accepted first.dimension b unrefused).0.counts
+        same : view t ≡ given_set b
+        same = ap view (read-none own (given_set b) yes).1 ∙ given-view b (summand_accepted first.dimension b unrefused).0.counts

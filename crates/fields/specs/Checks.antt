@@ -1,5 +1,5 @@
 -- A check: its causes are those of the region that its body gives.
-use Rattle.std.specs.Prelude.{◌≡◌, refl, List, Bool, true, false, ◌||◌, ℕ, ◌*◌, ◌<◌, ◌≤◌, ltb, eqb, length, ℤ, pos}
+use Rattle.std.specs.Prelude.{◌≡◌, refl, List, Bool, true, false, ◌||◌, ℕ, ◌*◌, ◌<◌, ◌≤◌, ltb, eqb, length, ℤ, pos, Result, Ok, Err}
 use Rattle.std.proofs.Common.{sym, ap, ap₂, ◌∙◌, arith}
 use Rattle.std.proofs.Math.Option.{Option, none, some}
 use borrow.Author.Tests.{lt-ltb, le-ltb, eq-eqb, ne_eqb, ltb-false}
@@ -14,8 +14,9 @@ use Rattle.model.specs.Run.{first_of}
 use Rattle.model.specs.Library.{of_region}
 use Rattle.bodies.specs.Fields.{region_counts_out, region_length, RegionBody, given_normals, given_bounds}
 use Rattle.bodies.specs.Region.{given-region, given_range}
+use Rattle.zonotope.specs.declared.Cause.{Cause}
+use Rattle.zonotope.specs.Answer.{cause_of}
 use Rattle.verdicts.specs.declared.Verdict.{Verdict}
-use Rattle.verdicts.specs.declared.Verdict.TheVariants.{Refused}
 use Rattle.verdicts.specs.Region.{halfspaces}
 use Rattle.verdicts.specs.Judged.{judged, few}
 use Rattle.zonotope.specs.declared.PolyZonotope.{PolyZonotope}
@@ -23,7 +24,7 @@ use Rattle.zonotope.specs.Record.{view, pack}
 use Rattle.answers.specs.Accepted.{AcceptedRecord, own_record}
 use Rattle.fields.specs.declared.Effect.{Effect}
 use Rattle.fields.specs.Refusal.{body_refusal}
-use Rattle.fields.specs.Effect.{found_of, effect_by, effect, left_as, judged_by}
+use Rattle.fields.specs.Effect.{found_of, effect_by, effect, judged_by}
 use Rattle.fields.specs.Entries.{zeros, zeros-length}
 
 -- a body with counts in limits and as long as they say
@@ -31,21 +32,21 @@ abbrev pub WholeRegion : List ℕ → Type 0
 WholeRegion b = RegionBody b (halfspace_count b * dimension b) (halfspace_count b)
 
 -- what a check of s answers
-abbrev pub checked : List ℕ → Zonotope → Verdict
+abbrev pub checked : List ℕ → Zonotope → Result Verdict Cause
 checked b s = judged (body_refusal check b 0 s) (safe (given_halfspaces b) s)
 
 module _ (b : List ℕ) (s : Zonotope) where
   -- ---- the answer of each test before the region is read
-  pub too_short : length b < 2 → Refused 3 ≡ checked b s
+  pub too_short : length b < 2 → Err (cause_of 3) ≡ checked b s
   unfolding first_of meaning
   too_short h = rw (lt-ltb (length b) 2 h)
 
   module _ (h : 2 ≤ length b) where
-    pub wrong_counts : region_counts_out b ≡ true → Refused 4 ≡ checked b s
+    pub wrong_counts : region_counts_out b ≡ true → Err (cause_of 4) ≡ checked b s
     unfolding first_of meaning
     wrong_counts w = rw (le-ltb (length b) 2 h, w)
 
-    pub wrong_length : region_counts_out b ≡ false → (length b ≡ region_length b → ⊥) → Refused 3 ≡ checked b s
+    pub wrong_length : region_counts_out b ≡ false → (length b ≡ region_length b → ⊥) → Err (cause_of 3) ≡ checked b s
     unfolding first_of meaning
     wrong_length w l = rw (le-ltb (length b) 2 h, w, ne_eqb (length b) (region_length b) l)
 
@@ -65,7 +66,7 @@ module _ (b : List ℕ) (s : Zonotope) where
     )
 
     -- so is the verdict, by normals and bounds that were read
-    pub region_verdict : {n count : ℕ} {xs ys : List ℤ} {r : Verdict}
+    pub region_verdict : {n count : ℕ} {xs ys : List ℤ} {r : Result Verdict Cause}
         → n ≡ dimension b → count ≡ halfspace_count b → (xs ≡ given_normals b) × (ys ≡ given_bounds b)
         → r ≡ judged (first_of (of_region n count xs ys s)) (safe (halfspaces n count xs ys) s) → r ≡ checked b s
     region_verdict e₁ e₂ read told =
@@ -93,18 +94,19 @@ module _ (b : List ℕ) (h : WholeRegion b) {n count : ℕ} (e₁ : n ≡ dimens
   }
 
 -- ---- the field: the set stays, and its record is the record of what it means
-pub check_effect : (b : List ℕ) (next : ℕ) (s : PolyZonotope) → AcceptedRecord s → {v : Verdict} → v ≡ checked b (view s)
-    → {f : Effect} → f ≡ judged_by v s next → f ≡ effect check b next s
+pub check_effect : (b : List ℕ) (next : ℕ) (s : PolyZonotope) → AcceptedRecord s → {v : Result Verdict Cause} → v ≡ checked b (view s)
+    → {f : Result Effect Cause} → f ≡ judged_by v s next → f ≡ effect check b next s
 unfolding effect meaning
 check_effect b next s a e p =
-    p ∙ ap (λ (v : Verdict). judged_by v s next) e ∙ go (body_refusal check b 0 (view s)) (safe (given_halfspaces b) (view s)) refl
+    p ∙ ap (λ (v : Result Verdict Cause). judged_by v s next) e ∙ go (body_refusal check b 0 (view s)) (safe (given_halfspaces b) (view s)) refl
   where
     stays : {y : Bool} → safe (given_halfspaces b) (view s) ≡ y
-        → left_as s next (found_of (verdict y)) ≡ left_as (pack (view s)) next (found_of (verdict (safe (given_halfspaces b) (view s))))
-    stays e = ap₂ (λ (x : PolyZonotope) (y : Bool). left_as x next (found_of (verdict y))) (sym (own_record s a)) (sym e)
+        → ◌≡◌ {A = Result Effect Cause} (Ok (record { found = found_of (verdict y); set = s; next = next }))
+        (Ok (record { found = found_of (verdict (safe (given_halfspaces b) (view s))); set = pack (view s); next = next }))
+    stays e = ap₂ (λ (x : PolyZonotope) (y : Bool). Ok (record { found = found_of (verdict y); set = x; next = next })) (sym (own_record s a)) (sym e)
 
     go : (o : Option ℕ) (y : Bool) → safe (given_halfspaces b) (view s) ≡ y
-        → judged_by (judged o y) s next ≡ effect_by o check (meaning check b next (view s)) next s
+        → judged_by (judged o y) s next ≡ effect_by o (meaning check b next (view s))
     go none true e = stays e
     go none false e = stays e
     go (some n) y e = refl

@@ -1,7 +1,8 @@
 -- Disturbances: their causes in parts.
-use Rattle.std.specs.Prelude.{◌≡◌, List, [], ◌∷◌, ◌++◌, map, Bool, true, false, ◌||◌, ℕ, ◌≤◌, ltb, eqb, length, replicate, ℤ, nat_abs}
+use Rattle.std.specs.Prelude.{◌≡◌, List, [], ◌∷◌, ◌++◌, map, Bool, true, false, ◌||◌, ℕ, ◌≤◌, ltb, eqb, length, replicate, ℤ, nat_abs, Result, Err}
 use Rattle.std.proofs.Common.{sym, ap, ap₂, ◌∙◌, arith}
 use Rattle.std.proofs.Math.Option.{none}
+use Rattle.std.specs.Result.{IsErrAnd}
 use borrow.Author.Tests.{ltb-false, le-ltb, eq-eqb, ne_eqb}
 use Rattle.std.proofs.lemmas.List.{length-replicate, length-map}
 use Rattle.whole.specs.Tab.{any, length-tab}
@@ -13,14 +14,11 @@ use Rattle.model.specs.Body.{dimension, disturbance_words, given_radii}
 use Rattle.model.specs.Field.{disturbance, meaning, bad_dimension, all_zero, negative, beyond, differs}
 use Rattle.model.specs.Run.{Cause, ◌if◌, first_of}
 use Rattle.zonotope.specs.declared.PolyZonotope.{PolyZonotope}
-use Rattle.zonotope.specs.declared.Examined.{Examined}
-use Rattle.zonotope.specs.declared.Examined.TheVariants as Accept
-use Rattle.zonotope.specs.declared.Examined.TheVariants.{Refused}
 use Rattle.zonotope.specs.Record.{view}
 use Rattle.zonotope.specs.Valid.{passed}
-use Rattle.zonotope.specs.Answer.{examined, or_else, first_append}
-use Rattle.answers.specs.declared.Changed.{Changed}
-use Rattle.answers.specs.Answer.{answered, of_result, is_refused, refused-first}
+use Rattle.zonotope.specs.declared.Cause as Zonotopes
+use Rattle.zonotope.specs.Answer.{Examined, Accepted, Refused, examined, or_else, first_append}
+use Rattle.answers.specs.Answer.{of_result, settled, refused-first}
 use Rattle.answers.specs.Order.{or_else_assoc, neither}
 use Rattle.answers.specs.Accepted.{AcceptedRecord, equal}
 use Rattle.answers.specs.Finishing.{part, part_length}
@@ -63,9 +61,9 @@ module _ (n : ℕ) (b : List ℕ) where
   abbrev numbers : List Cause
   numbers = of_given b n
 
-  pub radii-refused : {r : Examined} → r ≡ examined (first_of (radii_layout b)) → is_refused r ≡ true
+  pub radii-refused : {c : Zonotopes.Cause} {r : Examined} → Err c ≡ examined (first_of (radii_layout b)) → IsErrAnd r (λ e. e ≡ c)
       → r ≡ examined (first_of (of_disturbance n b))
-  radii-refused e h = rw (first_append (radii_layout b) numbers) (refused-first (first_of (radii_layout b)) (first_of numbers) e h)
+  radii-refused e f = rw (first_append (radii_layout b) numbers) (refused-first (first_of (radii_layout b)) (first_of numbers) e f)
 
   module _ (h : RadiiLaid b) where
     laid_order : first_of (of_disturbance n b) ≡ first_of numbers
@@ -86,7 +84,7 @@ module _ (n : ℕ) (b : List ℕ) where
         unfolding first_of
         radii_unfilled z = rw (laid_order, eq-eqb (dimension b) n d, e, z)
 
-        pub radii-accepted : all_zero (given_radii b) ≡ false → Accept.Accepted ≡ examined (first_of (of_disturbance n b))
+        pub radii-accepted : all_zero (given_radii b) ≡ false → Accepted ≡ examined (first_of (of_disturbance n b))
         unfolding first_of
         radii-accepted z = rw (laid_order, eq-eqb (dimension b) n d, e, z)
 
@@ -120,8 +118,8 @@ module _ (b : List ℕ) {radii : List ℕ} (e : radii ≡ given_radii b) (s : Po
   pub given_disturbable : Disturbable s (given_radii b) → Disturbable s radii
   given_disturbable h = rw e h
 
-  pub given-disturbed : {r : Changed} → r ≡ answered (of_result (disturb radii (view s))) s (disturb radii (view s))
-      → r ≡ answered (of_result (disturb (given_radii b) (view s))) s (disturb (given_radii b) (view s))
+  pub given-disturbed : {r : Result PolyZonotope Zonotopes.Cause} → r ≡ settled (disturb radii (view s))
+      → r ≡ settled (disturb (given_radii b) (view s))
   given-disturbed h = rw e at h
 
 -- an array that has room for them

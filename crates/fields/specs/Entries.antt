@@ -1,38 +1,18 @@
 -- A step's entries and half-widths in arrays.
-use Rattle.std.specs.Prelude.{◌≡◌, List, Bool, true, false, ℕ, ◌*◌, ◌-◌, ◌≤◌, length, replicate, ℤ, pos}
-use Rattle.std.proofs.Common.{ap, subst, ◌∙◌, mul-le-mul, arith, length-take-le}
+use Rattle.std.specs.Prelude.{◌≡◌, List, Bool, false, ℕ, ◌*◌, ◌-◌, ◌≤◌, length, replicate, ℤ}
+use Rattle.std.proofs.Common.{subst, ◌∙◌, mul-le-mul, arith, length-take-le}
 use Rattle.std.proofs.lemmas.List.{length-replicate}
 use Rattle.model.specs.Step.{Step}
 use Rattle.model.specs.Ranged.{Widths}
-use Rattle.model.specs.Body.{step_rows, step_columns, step_length, given_step, given_widths}
+use Rattle.model.specs.Body.{step_rows, step_columns, step_length, given_step, ranged_length, given_widths}
 use Rattle.model.specs.Field.{negative_width}
 use Rattle.zonotope.specs.declared.PolyZonotope.{PolyZonotope}
-use Rattle.answers.specs.declared.Changed.{Changed}
 use Rattle.answers.specs.Finishing.{part}
 use Rattle.image.specs.StepAccepted.{step_of}
 use Rattle.stepping.specs.Arguments.{counts_in}
 use Rattle.widths.specs.Widths.{widths_of}
 use Rattle.bodies.specs.Fields.{step_counts_out, StepBody, WidthsBody}
-use Rattle.fields.specs.Steps.{length_of, SteppedBy, RangedBy}
-
--- a body as long as its counts say, beside lists of these numbers of half-widths
-pub record WidthsRoom (b : List ℕ) (ranged : Bool) (a q : ℕ) : Type 0 where
-  pub long : length b ≡ length_of ranged b
-  pub linear : a ≡ step_rows b * step_columns b
-  pub quadratic : q ≡ step_rows b * step_columns b * step_columns b
-
--- which then has them
-pub widths_there : {b : List ℕ} {ranged : Bool} {a q : ℕ} → ranged ≡ true → WidthsRoom b ranged a q → WidthsBody b a q
-widths_there {b} e h = record {
-  long = h.long ∙ ap (λ (x : Bool). length_of x b) e;
-  linear = h.linear;
-  quadratic = h.quadratic;
-}
-
--- the step is there in both cases
-pub step_there : (b : List ℕ) (ranged : Bool) → length b ≡ length_of ranged b → step_length b ≤ length b
-step_there b false e = omega (arith, e)
-step_there b true e = omega (arith, e)
+use Rattle.fields.specs.Steps.{Made, SteppedBy, RangedBy}
 
 -- the first n places of an array of N zeros
 abbrev pub zeros : {A : Type 0} → A → ℕ → ℕ → List A
@@ -56,25 +36,19 @@ module _ (b : List ℕ) (right : step_counts_out b ≡ false) {m n : ℕ} (e₁ 
       let two = mul-le-mul {n₁ = m} {m₁ = n} {n₂ = 6} {m₂ = 6} rows columns in
       (rows, columns, two, mul-le-mul {n₁ = m * n} {m₁ = n} {n₂ = 36} {m₂ = 6} two columns)
 
-  linears_length : {A : Type 0} (z : A) → length (zeros z (m * n) 36) ≡ step_rows b * step_columns b
-  linears_length z = zeros-length z (m * n) 36 entries_few.2 ∙ rw (e₁, e₂)
+  -- slices that have room for the entries, and for the half-widths
+  module _ {y z : ℕ} (linear : y ≡ m * n) (quadratic : z ≡ m * n * n) where
+    linears_long : y ≡ step_rows b * step_columns b
+    linears_long = linear ∙ rw (e₁, e₂)
 
-  quadratics_length : {A : Type 0} (z : A) → length (zeros z (m * n * n) 216) ≡ step_rows b * step_columns b * step_columns b
-  quadratics_length z = zeros-length z (m * n * n) 216 entries_few.3 ∙ rw (e₁, e₂)
+    quadratics_long : z ≡ step_rows b * step_columns b * step_columns b
+    quadratics_long = quadratic ∙ rw (e₁, e₂)
 
-  -- parts of arrays that have room for the entries, and for the half-widths
-  pub entries_room : step_length b ≤ length b
-      → StepBody b (length (zeros (pos 0) m 6)) (length (zeros (pos 0) (m * n) 36)) (length (zeros (pos 0) (m * n * n) 216))
-  entries_room long = record {
-    long = long;
-    constant = zeros-length (pos 0) m 6 entries_few.0 ∙ e₁;
-    linear = linears_length (pos 0);
-    quadratic = quadratics_length (pos 0);
-  }
+    pub entries_room : {x : ℕ} → step_length b ≤ length b → x ≡ m → StepBody b x y z
+    entries_room long e = record { long = long; constant = e ∙ e₁; linear = linears_long; quadratic = quadratics_long }
 
-  pub widths_room : (ranged : Bool) → length b ≡ length_of ranged b
-      → WidthsRoom b ranged (length (zeros {A = ℕ} 0 (m * n) 36)) (length (zeros {A = ℕ} 0 (m * n * n) 216))
-  widths_room ranged whole = record { long = whole; linear = linears_length {A = ℕ} 0; quadratic = quadratics_length {A = ℕ} 0 }
+    pub widths_room : length b ≡ ranged_length b → WidthsBody b y z
+    widths_room whole = record { long = whole; linear = linears_long; quadratic = quadratics_long }
 
 -- entries that are read from it are those of its step
 module _ (b : List ℕ) {m n : ℕ} {c a q : List ℤ} (e₁ : m ≡ step_rows b) (e₂ : n ≡ step_columns b)
@@ -83,7 +57,7 @@ module _ (b : List ℕ) {m n : ℕ} {c a q : List ℤ} (e₁ : m ≡ step_rows b
   unfolding given_step
   entries_are = rw (e₁, e₂, k.0, k.1, k.2)
 
-  module _ {s : PolyZonotope} {r : Changed} {w₀ w : List ℤ} {e₀ e : List ℕ} where
+  module _ (s : PolyZonotope) {r : Made} {w₀ w : List ℤ} {e₀ e : List ℕ} where
     pub entries-stepped : SteppedBy (step_of m n c a q) s r w₀ w e₀ e → SteppedBy (given_step b) s r w₀ w e₀ e
     entries-stepped h = subst (λ (p : Step). SteppedBy p s r w₀ w e₀ e) entries_are h
 
@@ -93,10 +67,10 @@ module _ (b : List ℕ) {m n : ℕ} {c a q : List ℤ} (e₁ : m ≡ step_rows b
 
 -- and so are half-widths
 pub widths-ranged : (b : List ℕ) (p : Step) {da dq : List ℕ} {negative : Bool}
-    → (da ≡ (given_widths b).linear) × (dq ≡ (given_widths b).quadratic) → negative ≡ negative_width b → {s : PolyZonotope} {r : Changed} {w₀ w : List ℤ} {e₀ e : List ℕ}
+    → (da ≡ (given_widths b).linear) × (dq ≡ (given_widths b).quadratic) → negative ≡ negative_width b → (s : PolyZonotope) {r : Made} {w₀ w : List ℤ} {e₀ e : List ℕ}
     → RangedBy p (widths_of da dq) negative s r w₀ w e₀ e → RangedBy p (given_widths b) (negative_width b) s r w₀ w e₀ e
 unfolding given_widths
-widths-ranged b p {da} {dq} {negative} l f {s} {r} {w₀} {w} {e₀} {e} h =
+widths-ranged b p {da} {dq} {negative} l f s {r} {w₀} {w} {e₀} {e} h =
     subst (λ (x : Bool). RangedBy p (given_widths b) x s r w₀ w e₀ e) f
     (subst (λ (d : Widths). RangedBy p d negative s r w₀ w e₀ e) widths_are h)
   where

@@ -4,9 +4,8 @@ use Rattle.std.proofs.Common.{ap, ◌∙◌}
 use Rattle.std.proofs.Math.Option.{none}
 use borrow.Author.Tests.{ltb-false, lt-ltb, le-ltb, eq-eqb, ne_eqb}
 use Rattle.model.specs.Run.{Cause, ◌if◌, first_of}
-use Rattle.zonotope.specs.declared.Examined.TheVariants.{Accepted, Refused}
 use Rattle.zonotope.specs.Valid.{passed}
-use Rattle.zonotope.specs.Answer.{examined, or_else, first_append}
+use Rattle.zonotope.specs.Answer.{Accepted, Refused, examined, or_else, first_append}
 use Rattle.answers.specs.Accepted.{equal}
 
 -- a body of `long` bytes; its counts, which fill the first of them, are `wrong` or not, and say that it has `bytes`

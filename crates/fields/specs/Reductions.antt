@@ -1,5 +1,5 @@
 -- Reductions: their causes in parts.
-use Rattle.std.specs.Prelude.{◌≡◌, ℕ, ◌≤◌, ltb, length}
+use Rattle.std.specs.Prelude.{◌≡◌, ℕ, ◌≤◌, ltb, length, Result}
 use mathlib.Core.List.{List, [], ◌∷◌}
 use Rattle.std.proofs.Common.{ltb-false}
 use Rattle.whole.specs.Tests.{or_left, or_right}
@@ -13,8 +13,8 @@ use Rattle.model.specs.Run.{Cause, ◌if◌, first_of}
 use Rattle.zonotope.specs.declared.PolyZonotope.{PolyZonotope}
 use Rattle.zonotope.specs.Record.{view}
 use Rattle.zonotope.specs.Answer.{or_else}
-use Rattle.answers.specs.declared.Changed.{Changed}
-use Rattle.answers.specs.Answer.{answered, of_result}
+use Rattle.zonotope.specs.declared.Cause as Zonotopes
+use Rattle.answers.specs.Answer.{of_result, settled}
 use Rattle.bodies.specs.Fields.{limits_out}
 use Rattle.fields.specs.Refusal.{body_refusal}
 use Rattle.fields.specs.Layout.{layout, LaidOut, in_parts}
@@ -47,7 +47,6 @@ module _ (b : List ℕ) {h q : ℕ} where
             (or_right terms generators k.right),
       )
 
-  pub limits_reduced : h ≡ term_count_limit b → q ≡ generator_count_limit b → (s : PolyZonotope) → {r : Changed}
-      → r ≡ answered (of_result (reduce standard_weights h q (view s))) s (reduce standard_weights h q (view s))
-      → r ≡ answered (of_result (reduced b (view s))) s (reduced b (view s))
+  pub limits_reduced : h ≡ term_count_limit b → q ≡ generator_count_limit b → (s : PolyZonotope) → {r : Result PolyZonotope Zonotopes.Cause}
+      → r ≡ settled (reduce standard_weights h q (view s)) → r ≡ settled (reduced b (view s))
   limits_reduced e₁ e₂ s e = rw (e₁, e₂) at e

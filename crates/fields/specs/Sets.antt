@@ -1,35 +1,14 @@
 -- Fields whose body is a set: their causes in parts, in the order in which they are asked.
-use Rattle.std.specs.Prelude.{◌≡◌, refl, Bool, true, false, ◌||◌, ℕ, ◌≤◌, ltb, length}
-use Rattle.std.proofs.Common.{sym, ◌∙◌, subst, eq-eqb, ne_eqb}
-use Rattle.std.proofs.Math.Path.{ap}
+use Rattle.std.specs.Prelude.{Bool, ◌||◌, ℕ, ltb, length}
 use mathlib.Core.List.{List, [], ◌∷◌, ◌++◌}
-use Rattle.std.proofs.Math.Option.{Option, none, some}
-use Rattle.std.proofs.Math.Bool.{or-true, or-false, or_assoc}
 use Rattle.whole.specs.Tab.{any}
-use Rattle.whole.specs.Tests.{or_left}
-use Rattle.model.specs.Limits.{file_identifiers, record_identifiers}
-use Rattle.model.specs.Set.{Zonotope}
+use Rattle.model.specs.Limits.{file_identifiers}
 use Rattle.model.specs.Valid.{bad_range, bad_order, is_too_wide}
 use Rattle.model.specs.Body.{dimension, set_length, radius_words, given_set}
-use Rattle.model.specs.Field.{start, meaning, of_set, differs, negative}
-use Rattle.model.specs.Run.{Cause, ◌if◌, first_of, of_body, no_set}
-use Rattle.model.specs.Library.{Given, examine}
-use Rattle.zonotope.specs.declared.PolyZonotope.{PolyZonotope}
-use Rattle.zonotope.specs.declared.Examined.{Examined}
-use Rattle.zonotope.specs.declared.Examined.TheVariants.{Accepted, Refused}
-use Rattle.zonotope.specs.Valid.{Unrefused, passed}
-use Rattle.zonotope.specs.Record.{view, pack, given}
-use Rattle.zonotope.specs.Answer.{examined, or_else, first_append}
-use Rattle.answers.specs.declared.Changed.{Changed}
-use Rattle.answers.specs.Answer.{of_result, answered, is_refused, none_refuses, answer-refused, answer-next}
-use Rattle.answers.specs.Order.{neither}
-use Rattle.answers.specs.Accepted.{equal}
-use Rattle.answers.specs.Accepted as records
-use Rattle.summing.specs.Summable.{Summable}
-use Rattle.bodies.specs.Set.{set_counts_out, SetBody}
-use Rattle.bodies.specs.Given.{given_record, given-counts, given-view, file_range, pack_sized}
-use Rattle.fields.specs.Refusal.{body_refusal}
-use Rattle.fields.specs.Layout.{layout, laid_out}
+use Rattle.model.specs.Field.{differs, negative}
+use Rattle.model.specs.Run.{Cause, ◌if◌}
+use Rattle.bodies.specs.Set.{set_counts_out}
+use Rattle.fields.specs.Layout.{layout}
 
 module _ (b : List ℕ) where
   -- the body is as long as its counts say: 3, 4, 3

@@ -1,8 +1,9 @@
 -- Steps and ranged steps: their causes in parts, and what they leave in their work slices.
-use Rattle.std.specs.Prelude.{◌≡◌, List, [], ◌∷◌, ◌++◌, Bool, ◌&&◌, ◌||◌, ℕ, eqb, length, ℤ, pos}
+use Rattle.std.specs.Prelude.{◌≡◌, List, [], ◌∷◌, ◌++◌, Bool, ◌||◌, ℕ, eqb, length, ℤ, pos, Result, Ok, Err, ⊤}
 use Rattle.std.proofs.Math.Path.{refl}
 use Rattle.std.proofs.Common.{sym, ap, ◌∙◌, true≢false}
-use Rattle.std.proofs.Math.Option.{Option, none, some}
+use Rattle.std.proofs.Math.Option.{Option, none}
+use Rattle.std.specs.Result.{IsErrAnd}
 use Rattle.std.proofs.Math.Bool.{true, false}
 use borrow.Author.Tests.{eq-eqb, le-ltb}
 use Rattle.whole.specs.Tab.{length-tab, map-tab}
@@ -14,17 +15,15 @@ use Rattle.model.specs.Step.{Step}
 use Rattle.model.specs.Ranged as Ranged
 use Rattle.model.specs.Ranged.{Widths}
 use Rattle.model.specs.Body.{step_columns, step_length, given_step, ranged_length, given_widths}
-use Rattle.model.specs.Field.{Kind, step, ranged_step, Meaning, meaning, describe, of_step_body, differs, bad_step_range, negative_width}
+use Rattle.model.specs.Field.{Kind, step, ranged_step, meaning, of_step_body, differs, bad_step_range, negative_width}
 use Rattle.model.specs.Field.{bad_width_range}
 use Rattle.model.specs.Run.{Cause, ◌if◌, first_of, of_body}
 use Rattle.model.specs.Library.{bad_step_lengths, bad_width_lengths, of_step, of_ranged_step}
 use Rattle.zonotope.specs.declared.PolyZonotope.{PolyZonotope}
-use Rattle.zonotope.specs.declared.Examined.{Examined}
-use Rattle.zonotope.specs.declared.Examined.TheVariants.{Accepted, Refused}
+use Rattle.zonotope.specs.declared.Cause as Zonotopes
 use Rattle.zonotope.specs.Record.{view}
-use Rattle.zonotope.specs.Answer.{examined, or_else, first_append}
-use Rattle.answers.specs.declared.Changed.{Changed}
-use Rattle.answers.specs.Answer.{answered, of_result, is_refused, none_refuses, answer-refused, answer-next}
+use Rattle.zonotope.specs.Answer.{Accepted, Refused, examined, or_else, first_append, nothing_found}
+use Rattle.answers.specs.Answer.{of_result, resulted, settled, result-refused, result-next}
 use Rattle.answers.specs.Order.{neither}
 use Rattle.raw.specs.Append.{KeptFrom}
 use Rattle.image.specs.StepAccepted.{StepAccepted}
@@ -33,24 +32,17 @@ use Rattle.stepping.specs.Arguments.{ranged_in}
 use Rattle.stepping.specs.Work.{work_numbers, work_exponents, worked, result-worked}
 use Rattle.bodies.specs.Fields.{step_counts_out}
 use Rattle.fields.specs.Refusal.{body_refusal, result_of}
-use Rattle.fields.specs.declared.Effect.{Effect}
-use Rattle.fields.specs.Effect.{effect_by, effect, Used, changed_by, change_effect}
+use Rattle.fields.specs.Effect.{Used}
 use Rattle.fields.specs.Layout.{layout, LaidOut, in_parts}
 
 -- ---- definitions
--- what a step leaves in a work slice: what it held where the step isn't worked out, and in any case what it held from place n on
-pub record Worked {A : Type 0} (d : A) (o : Option ℕ) (n : ℕ) (before after : List A) : Type 0 where
-  pub untouched : worked o ≡ false → after ≡ before
-  pub kept : KeptFrom d n before after
+-- what a step leaves in a work slice, by the number that refuses it
+abbrev pub Worked : {A : Type 0} → A → Option ℕ → ℕ → List A → List A → Type 0
+Worked d o n before after = Used (worked o) d n before after
 
--- a step's kind, by whether half-widths follow, and the length of its body
-abbrev pub step_kind : Bool → Kind
-step_kind false = step
-step_kind true = ranged_step
-
-abbrev pub length_of : Bool → List ℕ → ℕ
-length_of false b = step_length b
-length_of true b = ranged_length b
+-- what a call that makes a set answers
+abbrev pub Made : Type 0
+Made = Result PolyZonotope Zonotopes.Cause
 
 -- it is as long as its counts say: 3, 4, 3
 abbrev pub layout_of : List ℕ → ℕ → List Cause
@@ -68,22 +60,22 @@ abbrev pub of_stepped : List Cause → Zonotope → Option ℕ
 of_stepped own result = or_else (first_of own) (of_result result)
 
 -- what is answered for a step with these causes of its own and this result, and what it leaves in its work slices
-pub record Stepped (own : List Cause) (result : Zonotope) (s : PolyZonotope) (r : Changed) (w₀ w : List ℤ) (e₀ e : List ℕ) : Type 0 where
-  pub answer : r ≡ answered (of_stepped own result) s result
+pub record Stepped (own : List Cause) (result : Zonotope) (r : Made) (w₀ w : List ℤ) (e₀ e : List ℕ) : Type 0 where
+  pub answer : r ≡ resulted (of_stepped own result) result
   pub numbers : Worked (pos 0) (of_stepped own result) work_numbers w₀ w
   pub exponents : Worked 0 (of_stepped own result) work_exponents e₀ e
 
 -- for the step p
-abbrev pub SteppedBy : Step → PolyZonotope → Changed → List ℤ → List ℤ → List ℕ → List ℕ → Type 0
-SteppedBy p s r w₀ w e₀ e = Stepped (of_step p s.dimension) (Step.step standard_weights p (view s)) s r w₀ w e₀ e
+abbrev pub SteppedBy : Step → PolyZonotope → Made → List ℤ → List ℤ → List ℕ → List ℕ → Type 0
+SteppedBy p s r w₀ w e₀ e = Stepped (of_step p s.dimension) (Step.step standard_weights p (view s)) r w₀ w e₀ e
 
 -- for a ranged step, whose half-widths are sizes of words of which one may be negative
 abbrev pub of_ranged_words : Step → Widths → Bool → ℕ → List Cause
 of_ranged_words p d negative dimension = of_ranged_step p d dimension ++ ((6 if negative) ∷ [])
 
-abbrev pub RangedBy : Step → Widths → Bool → PolyZonotope → Changed → List ℤ → List ℤ → List ℕ → List ℕ → Type 0
+abbrev pub RangedBy : Step → Widths → Bool → PolyZonotope → Made → List ℤ → List ℤ → List ℕ → List ℕ → Type 0
 RangedBy p d negative s r w₀ w e₀ e =
-    Stepped (of_ranged_words p d negative s.dimension) (Ranged.ranged_step standard_weights p d (view s)) s r w₀ w e₀ e
+    Stepped (of_ranged_words p d negative s.dimension) (Ranged.ranged_step standard_weights p d (view s)) r w₀ w e₀ e
 
 -- ---- the work slices
 module _ {A : Type 0} (d : A) (o : Option ℕ) (n : ℕ) where
@@ -94,19 +86,20 @@ module _ {A : Type 0} (d : A) (o : Option ℕ) (n : ℕ) where
   slice_worked e k = record { untouched = λ h. absurd (true≢false (sym e ∙ h)); kept = k }
 
 -- ---- from the answer to a step's own causes
-module _ (own : List Cause) (result : Zonotope) (s : PolyZonotope) {o : Examined} (from : o ≡ examined (first_of own)) where
-  pub stepped-refused : is_refused o ≡ true → (w : List ℤ) (e : List ℕ) → Stepped own result s (record { outcome = o; set = s }) w w e e
-  stepped-refused h w e = record {
-    answer = answer-refused (first_of own) (of_result result) from refl s result h;
+module _ (own : List Cause) (result : Zonotope) where
+  pub stepped-refused : {c : Zonotopes.Cause} {r : Made} → Err c ≡ examined (first_of own) → IsErrAnd r (λ e. e ≡ c)
+      → (w : List ℤ) (e : List ℕ) → Stepped own result r w w e e
+  stepped-refused p f w e = record {
+    answer = result-refused (first_of own) (of_result result) refl result p f;
     numbers = slice_untouched (pos 0) (of_stepped own result) work_numbers w;
     exponents = slice_untouched 0 (of_stepped own result) work_exponents e;
   }
 
-  pub stepped-worked : is_refused o ≡ false → {r : Changed} {w₀ w : List ℤ} {e₀ e : List ℕ} → r ≡ answered (of_result result) s result
-      → KeptFrom (pos 0) work_numbers w₀ w → KeptFrom 0 work_exponents e₀ e → Stepped own result s r w₀ w e₀ e
-  stepped-worked h a kw ke =
-      let done : worked (of_stepped own result) ≡ true = rw (none_refuses (first_of own) from h) (result-worked result) in record {
-        answer = answer-next (first_of own) (of_result result) from refl s result h a;
+  pub stepped-worked : {u : ⊤} → Ok u ≡ examined (first_of own) → {r : Made} {w₀ w : List ℤ} {e₀ e : List ℕ} → r ≡ settled result
+      → KeptFrom (pos 0) work_numbers w₀ w → KeptFrom 0 work_exponents e₀ e → Stepped own result r w₀ w e₀ e
+  stepped-worked p a kw ke =
+      let done : worked (of_stepped own result) ≡ true = rw (nothing_found (first_of own) p) (result-worked result) in record {
+        answer = result-next (first_of own) (of_result result) refl result p a;
         numbers = slice_worked (pos 0) (of_stepped own result) work_numbers done kw;
         exponents = slice_worked 0 (of_stepped own result) work_exponents done ke;
       }
@@ -118,9 +111,9 @@ module _ (b : List ℕ) (bytes : ℕ) (range : Bool) (s : PolyZonotope) (result 
   field_refusal = first_of (of_body (of_step_body b bytes range (view s) 0 result []) (length b))
 
   -- what is answered, and what is left in the work slices
-  abbrev FieldStepped : Changed → List ℤ → List ℤ → List ℕ → List ℕ → Type 0
+  abbrev FieldStepped : Made → List ℤ → List ℤ → List ℕ → List ℕ → Type 0
   FieldStepped r w₀ w e₀ e =
-      (r ≡ answered field_refusal s result)
+      (r ≡ resulted field_refusal result)
       × (Worked (pos 0) field_refusal work_numbers w₀ w × Worked 0 field_refusal work_exponents e₀ e)
 
   abbrev numbers : List Cause
@@ -130,16 +123,16 @@ module _ (b : List ℕ) (bytes : ℕ) (range : Bool) (s : PolyZonotope) (result 
   unfolding view first_of
   field-order = in_parts (layout_of b bytes) numbers ((10 if is_too_wide result) ∷ [])
 
-  layout-refused : {o : Examined} → o ≡ examined (first_of (layout_of b bytes)) → is_refused o ≡ true → (w : List ℤ) (e : List ℕ)
-      → FieldStepped (record { outcome = o; set = s }) w w e e
-  layout-refused from h w e = (
-    answer-refused (first_of (layout_of b bytes)) (of_stepped numbers result) from field-order s result h,
+  layout-refused : {c : Zonotopes.Cause} {r : Made} → Err c ≡ examined (first_of (layout_of b bytes)) → IsErrAnd r (λ e. e ≡ c)
+      → (w : List ℤ) (e : List ℕ) → FieldStepped r w w e e
+  layout-refused p f w e = (
+    result-refused (first_of (layout_of b bytes)) (of_stepped numbers result) field-order result p f,
     (slice_untouched (pos 0) field_refusal work_numbers w, slice_untouched 0 field_refusal work_exponents e),
   )
 
   -- in a body that is laid out, it is answered by causes that are 5 and 6
   laid_stepped : BodyLaid b bytes → (own : List Cause) → first_of own ≡ first_of numbers
-      → {r : Changed} {w₀ w : List ℤ} {e₀ e : List ℕ} → Stepped own result s r w₀ w e₀ e → FieldStepped r w₀ w e₀ e
+      → {r : Made} {w₀ w : List ℤ} {e₀ e : List ℕ} → Stepped own result r w₀ w e₀ e → FieldStepped r w₀ w e₀ e
   unfolding first_of
   laid_stepped h own same k = rw order (k.answer, (k.numbers, k.exponents))
     where
@@ -162,28 +155,46 @@ unfolding given_step given_widths
 width_lengths_right b = simp (map-tab, length-tab, same)
 
 module _ (b : List ℕ) (s : PolyZonotope) where
-  -- their own causes, whether a number is out of range, and what they give
-  abbrev own_causes : Bool → List Cause
-  own_causes false = of_step (given_step b) s.dimension
-  own_causes true = of_ranged_words (given_step b) (given_widths b) (negative_width b) s.dimension
+  -- what a step's kind promises, and a ranged step's
+  abbrev pub KindStepped : Kind → Made → List ℤ → List ℤ → List ℕ → List ℕ → Type 0
+  KindStepped k r w₀ w e₀ e =
+      (r ≡ resulted (body_refusal k b 0 (view s)) (result_of k b 0 (view s)))
+      × (Worked (pos 0) (body_refusal k b 0 (view s)) work_numbers w₀ w × Worked 0 (body_refusal k b 0 (view s)) work_exponents e₀ e)
 
-  abbrev range_of : Bool → Bool
-  range_of false = bad_step_range (given_step b)
-  range_of true = bad_step_range (given_step b) || (negative_width b || bad_width_range (given_step b) (given_widths b))
+  -- ---- a step
+  abbrev image : Zonotope
+  image = Step.step standard_weights (given_step b) (view s)
 
-  abbrev image_of : Bool → Zonotope
-  image_of false = Step.step standard_weights (given_step b) (view s)
-  image_of true = Ranged.ranged_step standard_weights (given_step b) (given_widths b) (view s)
-
-  -- the step that the body gives, once it is laid out
-  abbrev pub GivenStepped : Bool → Changed → List ℤ → List ℤ → List ℕ → List ℕ → Type 0
-  GivenStepped ranged r w₀ w e₀ e = Stepped (own_causes ranged) (image_of ranged) s r w₀ w e₀ e
-
-  own-causes : (ranged : Bool) → step_counts_out b ≡ false
-      → first_of (own_causes ranged) ≡ first_of (of_numbers (differs (step_columns b) s.dimension) (range_of ranged))
+  own-causes : step_counts_out b ≡ false → first_of (of_step (given_step b) s.dimension)
+      ≡ first_of (of_numbers (differs (step_columns b) s.dimension) (bad_step_range (given_step b)))
   unfolding first_of given_step
-  own-causes false right = rw (right, lengths_right b)
-  own-causes true right =
+  own-causes right = rw (right, lengths_right b)
+
+  pub step-stepped : BodyLaid b (step_length b) → {r : Made} {w₀ w : List ℤ} {e₀ e : List ℕ}
+      → SteppedBy (given_step b) s r w₀ w e₀ e → KindStepped step r w₀ w e₀ e
+  unfolding meaning
+  step-stepped laid k = laid_stepped b (step_length b) (bad_step_range (given_step b)) s image laid (of_step (given_step b) s.dimension)
+      (own-causes laid.right) k
+
+  pub step-refused : {c : Zonotopes.Cause} {r : Made} → Err c ≡ examined (first_of (layout_of b (step_length b))) → IsErrAnd r (λ e. e ≡ c)
+      → (w : List ℤ) (e : List ℕ) → KindStepped step r w w e e
+  unfolding meaning
+  step-refused p f w e = layout-refused b (step_length b) (bad_step_range (given_step b)) s image p f w e
+
+  -- ---- a ranged step
+  abbrev ranged_causes : List Cause
+  ranged_causes = of_ranged_words (given_step b) (given_widths b) (negative_width b) s.dimension
+
+  abbrev ranged_range : Bool
+  ranged_range = bad_step_range (given_step b) || (negative_width b || bad_width_range (given_step b) (given_widths b))
+
+  abbrev ranged_image : Zonotope
+  ranged_image = Ranged.ranged_step standard_weights (given_step b) (given_widths b) (view s)
+
+  ranged-causes : step_counts_out b ≡ false
+      → first_of ranged_causes ≡ first_of (of_numbers (differs (step_columns b) s.dimension) ranged_range)
+  unfolding first_of given_step
+  ranged-causes right =
       rw (right, lengths_right b, width_lengths_right b)
       (by_case (differs (step_columns b) s.dimension) (bad_step_range (given_step b)) (bad_width_range (given_step b) (given_widths b))
       (negative_width b))
@@ -198,29 +209,15 @@ module _ (b : List ℕ) (s : PolyZonotope) where
       by_case false false false true = refl
       by_case false false false false = refl
 
-  -- what `step` promises
-  abbrev pub KindStepped : Bool → Changed → List ℤ → List ℤ → List ℕ → List ℕ → Type 0
-  KindStepped ranged r w₀ w e₀ e =
-      (r ≡ answered (body_refusal (step_kind ranged) b 0 (view s)) s (result_of (step_kind ranged) b 0 (view s)))
-      × (Worked (pos 0) (body_refusal (step_kind ranged) b 0 (view s)) work_numbers w₀ w
-      × Worked 0 (body_refusal (step_kind ranged) b 0 (view s)) work_exponents e₀ e)
+  pub ranged-stepped : BodyLaid b (ranged_length b) → {r : Made} {w₀ w : List ℤ} {e₀ e : List ℕ}
+      → RangedBy (given_step b) (given_widths b) (negative_width b) s r w₀ w e₀ e → KindStepped ranged_step r w₀ w e₀ e
+  unfolding meaning
+  ranged-stepped laid k = laid_stepped b (ranged_length b) ranged_range s ranged_image laid ranged_causes (ranged-causes laid.right) k
 
-  module _ {r : Changed} {w₀ w : List ℤ} {e₀ e : List ℕ} where
-    by_kind : (ranged : Bool) → FieldStepped b (length_of ranged b) (range_of ranged) s (image_of ranged) r w₀ w e₀ e
-        → KindStepped ranged r w₀ w e₀ e
-    unfolding meaning
-    by_kind false k = k
-    by_kind true k = k
-
-    pub kind-stepped : (ranged : Bool) → BodyLaid b (length_of ranged b) → GivenStepped ranged r w₀ w e₀ e → KindStepped ranged r w₀ w e₀ e
-    kind-stepped ranged laid k =
-        by_kind ranged (laid_stepped b (length_of ranged b) (range_of ranged) s (image_of ranged) laid (own_causes ranged)
-        (own-causes ranged laid.right) k)
-
-  pub kind-refused : (ranged : Bool) {o : Examined} → o ≡ examined (first_of (layout_of b (length_of ranged b))) → is_refused o ≡ true
-      → (w : List ℤ) (e : List ℕ) → KindStepped ranged (record { outcome = o; set = s }) w w e e
-  kind-refused ranged from h w e =
-      by_kind ranged (layout-refused b (length_of ranged b) (range_of ranged) s (image_of ranged) from h w e)
+  pub ranged-refused : {c : Zonotopes.Cause} {r : Made} → Err c ≡ examined (first_of (layout_of b (ranged_length b)))
+      → IsErrAnd r (λ e. e ≡ c) → (w : List ℤ) (e : List ℕ) → KindStepped ranged_step r w w e e
+  unfolding meaning
+  ranged-refused p f w e = layout-refused b (ranged_length b) ranged_range s ranged_image p f w e
 
 -- ---- the own causes of a ranged step
 -- the answers for the signs
@@ -246,29 +243,3 @@ module _ (p : Step) (d : Widths) (negative : Bool) (dimension : ℕ) where
   words_in e =
       ranged_in p d dimension
       (neither (first_of (of_ranged_step p d dimension)) (of_signs negative) (sym words-parts ∙ e)).0
-
--- ---- the fields
-module _ (b : List ℕ) (next : ℕ) (s : PolyZonotope) where
-  pub step-effect : (ranged : Bool) {r : Changed}
-      → r ≡ answered (body_refusal (step_kind ranged) b 0 (view s)) s (result_of (step_kind ranged) b 0 (view s))
-      → {f : Effect} → f ≡ changed_by r.outcome s next next r.set true true → f ≡ effect (step_kind ranged) b next s
-  unfolding meaning
-  step-effect false from p = change_effect step b next s refl s from refl p
-  step-effect true from p = change_effect ranged_step b next s refl s from refl p
-
-  -- it was worked out where it says so
-  worked_by : (k : Kind) → (describe k).works ≡ true → (o : Option ℕ) (m : Meaning) → (effect_by o k m next s).worked ≡ worked o
-  worked_by k e none m = e
-  worked_by k e (some n) m = ap (◌&& eqb n 10) e
-
-  worked_is : (ranged : Bool) → (effect (step_kind ranged) b next s).worked ≡ worked (body_refusal (step_kind ranged) b 0 (view s))
-  unfolding effect meaning
-  worked_is false = worked_by step refl (body_refusal step b 0 (view s)) (meaning step b next (view s))
-  worked_is true = worked_by ranged_step refl (body_refusal ranged_step b 0 (view s)) (meaning ranged_step b next (view s))
-
-  pub step-used : (ranged : Bool) {f : Effect} → f ≡ effect (step_kind ranged) b next s → {A : Type 0} {d : A} {n : ℕ}
-      {before after : List A} → Worked d (body_refusal (step_kind ranged) b 0 (view s)) n before after → Used f.worked d n before after
-  step-used ranged e h = record {
-    untouched = λ q. h.untouched (sym (ap (λ (f : Effect). f.worked) e ∙ worked_is ranged) ∙ q);
-    kept = h.kept;
-  }

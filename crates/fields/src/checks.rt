@@ -13,36 +13,35 @@ ghost use Rattle.fields.specs.Checks.{WholeRegion, checked};
 
 use crate::{Effect, effects};
 use verdicts::Verdict;
-use zonotope::PolyZonotope;
+use zonotope::{Cause, PolyZonotope};
 
 // What it does: a verdict; the set and the next identifier stay.
-pub fn effect(first: PolyZonotope, next: u32, body: &[u8]) -> Effect
+pub fn effect(first: PolyZonotope, next: u32, body: &[u8]) -> Result<Effect, Cause>
     requires { AcceptedRecord first }
     ensures { result ≡ effect check body.now next first }
 {
-    let v = check(first, body);
-    effects::of_verdict(first, next, v)
+    effects::judged(check(first, body), first, next)
 }
 
 // Whether the set avoids the body's region, as far as the lower ends tell.
-fn check(s: PolyZonotope, body: &[u8]) -> Verdict
+fn check(s: PolyZonotope, body: &[u8]) -> Result<Verdict, Cause>
     requires { AcceptedRecord s }
     ensures { result ≡ judged (body_refusal check body.now 0 (view s)) (safe (given_halfspaces body.now) (view s)) }
 {
     if body.len() < 2 {
-        return Verdict::Refused(3);
+        return Err(Cause::Length);
     }
     if bodies::region_counts_out(body) {
-        return Verdict::Refused(4);
+        return Err(Cause::Count);
     }
     if body.len() != bodies::region_length(body) {
-        return Verdict::Refused(3);
+        return Err(Cause::Length);
     }
     read(s, body)
 }
 
 // The verdict by a body of the right length: 5, 6.
-fn read(s: PolyZonotope, body: &[u8]) -> Verdict
+fn read(s: PolyZonotope, body: &[u8]) -> Result<Verdict, Cause>
     requires { AcceptedRecord s × WholeRegion body.now }
     ensures { result ≡ checked body.now (view s) }
 {
@@ -69,7 +68,7 @@ fn read_into(
     count: usize,
     normals: &mut [i32],
     bounds: &mut [i64],
-) -> Verdict
+) -> Result<Verdict, Cause>
     requires { AcceptedRecord s × (n ≡ dimension body.now) × (count ≡ halfspace_count body.now)
         × RegionBody body.now (length normals.old) (length bounds.old) }
     ensures { result ≡ checked body.now (view s) }

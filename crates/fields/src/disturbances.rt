@@ -6,7 +6,7 @@ ghost use Rattle.model.specs.Field.{disturbance};
 ghost use Rattle.model.specs.Run.{first_of};
 ghost use Rattle.zonotope.specs.Record.{view};
 ghost use Rattle.zonotope.specs.Answer.{examined};
-ghost use Rattle.answers.specs.Answer.{answered, of_result};
+ghost use Rattle.answers.specs.Answer.{resulted, settled};
 ghost use Rattle.answers.specs.Accepted.{AcceptedRecord};
 ghost use Rattle.summing.specs.Disturb.{Disturbable};
 ghost use Rattle.bodies.specs.Fields.{radii_length};
@@ -15,72 +15,62 @@ ghost use Rattle.fields.specs.Effect.{effect};
 ghost use Rattle.fields.specs.Disturbances.{radii_layout, RadiiLaid, of_disturbance};
 
 use crate::{Effect, effects};
-use answers::Changed;
-use zonotope::{Examined, PolyZonotope};
+use zonotope::{Cause, PolyZonotope};
 
 // What it does; the next identifier stays.
-pub fn effect(first: PolyZonotope, next: u32, body: &[u8]) -> Effect
+pub fn effect(first: PolyZonotope, next: u32, body: &[u8]) -> Result<Effect, Cause>
     requires { AcceptedRecord first }
     ensures { result ≡ effect disturbance body.now next first }
 {
-    let r = disturb(first, body);
-    effects::of_change(first, next, next, r, false, false)
+    effects::boxed(disturb(first, body), next)
 }
 
 // The set with the radii added.
-fn disturb(s: PolyZonotope, body: &[u8]) -> Changed
+fn disturb(s: PolyZonotope, body: &[u8]) -> Result<PolyZonotope, Cause>
     requires { AcceptedRecord s }
-    ensures { result ≡ answered (body_refusal disturbance body.now 0 (view s)) s
-        (result_of disturbance body.now 0 (view s)) }
+    ensures { result ≡ resulted (body_refusal disturbance body.now 0 (view s)) (result_of disturbance body.now 0 (view s)) }
 {
-    let o = of_body(s.dimension, body);
-    if answers::is_refused(o) {
-        return Changed { outcome: o, set: s };
-    }
+    of_body(s.dimension, body)?;
     read(s, body)
 }
 
 // The first cause that refuses radii for n coordinates: 3, 4, 3, 5, 6, 14.
-fn of_body(n: usize, body: &[u8]) -> Examined
+fn of_body(n: usize, body: &[u8]) -> Result<(), Cause>
     ensures { result ≡ examined (first_of (of_disturbance n body.now)) }
 {
-    let o = of_layout(body);
-    if answers::is_refused(o) {
-        return o;
-    }
+    of_layout(body)?;
     if words::byte_at(body, 0) != n {
-        return Examined::Refused(5);
+        return Err(Cause::Dimension);
     }
     if bodies::radii_out(body) {
-        return Examined::Refused(6);
+        return Err(Cause::Range);
     }
     if bodies::radii_empty(body) {
-        return Examined::Refused(14);
+        return Err(Cause::EmptyDisturbance);
     }
-    Examined::Accepted
+    Ok(())
 }
 
 // Whether the body is as long as its count says: 3, 4, 3.
-fn of_layout(body: &[u8]) -> Examined
+fn of_layout(body: &[u8]) -> Result<(), Cause>
     ensures { result ≡ examined (first_of (radii_layout body.now)) }
 {
     if body.len() < 1 {
-        return Examined::Refused(3);
+        return Err(Cause::Length);
     }
     if bodies::radii_counts_out(body) {
-        return Examined::Refused(4);
+        return Err(Cause::Count);
     }
     if body.len() != bodies::radii_length(body) {
-        return Examined::Refused(3);
+        return Err(Cause::Length);
     }
-    Examined::Accepted
+    Ok(())
 }
 
 // The set with the radii of a body that nothing refuses: 10.
-fn read(s: PolyZonotope, body: &[u8]) -> Changed
+fn read(s: PolyZonotope, body: &[u8]) -> Result<PolyZonotope, Cause>
     requires { RadiiLaid body.now × Disturbable s (given_radii body.now) }
-    ensures { result ≡ answered (of_result (disturb (given_radii body.now) (view s))) s
-        (disturb (given_radii body.now) (view s)) }
+    ensures { result ≡ settled (disturb (given_radii body.now) (view s)) }
 {
     let n = words::byte_at(body, 0);
     let mut radii = [0u32; 6];
@@ -88,11 +78,10 @@ fn read(s: PolyZonotope, body: &[u8]) -> Changed
 }
 
 // The same with room for the radii.
-fn read_into(s: PolyZonotope, body: &[u8], radii: &mut [u32]) -> Changed
+fn read_into(s: PolyZonotope, body: &[u8], radii: &mut [u32]) -> Result<PolyZonotope, Cause>
     requires { (length body.now ≡ radii_length body.now) × (length radii.old ≡ dimension body.now)
         × Disturbable s (given_radii body.now) }
-    ensures { result ≡ answered (of_result (disturb (given_radii body.now) (view s))) s
-        (disturb (given_radii body.now) (view s)) }
+    ensures { result ≡ settled (disturb (given_radii body.now) (view s)) }
 {
     bodies::radii(body, radii);
     summing::disturbance::disturbed(s, radii)

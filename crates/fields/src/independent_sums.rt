@@ -3,40 +3,30 @@ ghost use Rattle.std.specs.Prelude.{◌≡◌, ◌<◌};
 ghost use Rattle.model.specs.Body.{factors};
 ghost use Rattle.model.specs.Field.{independent};
 ghost use Rattle.zonotope.specs.Record.{view};
-ghost use Rattle.answers.specs.Answer.{answered};
+ghost use Rattle.answers.specs.Answer.{resulted};
 ghost use Rattle.answers.specs.Accepted.{AcceptedRecord};
 ghost use Rattle.summing.specs.Summable.{Next};
 ghost use Rattle.fields.specs.Refusal.{body_refusal, result_of};
 ghost use Rattle.fields.specs.Effect.{effect};
 
 use crate::{Effect, effects, sets};
-use answers::Changed;
-use zonotope::PolyZonotope;
+use zonotope::{Cause, PolyZonotope};
 
 // What it does; the next identifier rises by the number of factors.
-pub fn effect(first: PolyZonotope, next: u32, body: &[u8]) -> Effect
+pub fn effect(first: PolyZonotope, next: u32, body: &[u8]) -> Result<Effect, Cause>
     requires { AcceptedRecord first × Next next }
     ensures { result ≡ effect independent body.now next first }
 {
-    let r = independent(first, next, body);
-    effects::of_change(first, next, next + factor_count(body), r, false, false)
+    effects::boxed(independent(first, next, body), next + factor_count(body))
 }
 
 // The sum with the body's set, whose factors are numbered from `next` on.
-fn independent(first: PolyZonotope, next: u32, body: &[u8]) -> Changed
+fn independent(first: PolyZonotope, next: u32, body: &[u8]) -> Result<PolyZonotope, Cause>
     requires { AcceptedRecord first × Next next }
-    ensures { result ≡ answered (body_refusal independent body.now next (view first)) first
+    ensures { result ≡ resulted (body_refusal independent body.now next (view first))
         (result_of independent body.now next (view first)) }
 {
-    let g = sets::summand(first.dimension, body);
-    let o = g.outcome;
-    if answers::is_refused(o) {
-        return Changed {
-            outcome: o,
-            set: first,
-        };
-    }
-    let second = g.set;
+    let second = sets::summand(first.dimension, body)?;
     summing::sum::independent(first, second, next)
 }
 

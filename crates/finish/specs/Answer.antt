@@ -1,5 +1,5 @@
 -- The answer of finishing, from the set that is left in rows.
-use Rattle.std.specs.Prelude.{◌≡◌, refl, Bool, true, false, cond, ltb, ℤ, pos}
+use Rattle.std.specs.Prelude.{◌≡◌, refl, Bool, true, false, cond, Option, Some, None, ltb, ℤ, pos}
 use Rattle.std.proofs.Math.Path.{sym, ap, ap₂, fun_ext}
 use Rattle.std.proofs.Common.{subst, ◌∙◌, arith, ltb-false}
 use mathlib.Core.List.{List}
@@ -15,14 +15,12 @@ use Rattle.model.specs.Limits.{max_span}
 use Rattle.model.specs.Set.{Zonotope, at, radius, term_sizes, generator_sizes, span}
 use Rattle.model.specs.Valid.{occurs, is_too_wide}
 use Rattle.model.specs.Finish.{keep_exponents, drop_unused, finish}
-use Rattle.model.specs.Run.{no_set}
 use Rattle.model.proofs.Radii.{radius_past}
 use Rattle.model.proofs.Tests.{any_false, tab-all}
 use Rattle.zonotope.specs.Record.{pack}
 use Rattle.zonotope.specs.declared.PolyZonotope.{PolyZonotope}
 use Rattle.finish.specs.declared.Unfinished.{Unfinished}
 use Rattle.finish.specs.declared.Reduced.{Reduced}
-use Rattle.finish.specs.declared.Finished.{Finished}
 use Rattle.finish.specs.Wide.{wide_term, wide_coefficients, wide, wide_numbers}
 use Rattle.finish.specs.Stages.{reduced, finish-reduced}
 use Rattle.finish.specs.WideStages.{occurs-wide, occurs_past}
@@ -133,13 +131,12 @@ module _ (weights : List ℕ) (h q : ℕ) {u : Unfinished} {k : Reduced} {e head
   finish-wide_as = ap is_too_wide finish-left ∙ too_wide-kept (held_by u k e heads s g)
 
   -- the two answers
-  abbrev answer : Bool → Finished
-  answer b = cond b (record { narrow = false; set = pack no_set }) (record { narrow = true; set = pack (finish weights h q m) })
+  abbrev answer : Bool → Option PolyZonotope
+  answer b = cond b None (Some (pack (finish weights h q m)))
 
-  pub refused : is_too_wide (held_by u k e heads s g) ≡ true → record { narrow = false; set = pack no_set } ≡ finished_as (finish weights h q m)
+  pub refused : is_too_wide (held_by u k e heads s g) ≡ true → None ≡ finished_as (finish weights h q m)
   refused f = sym (ap answer (finish-wide_as ∙ f))
 
   pub accepted : is_too_wide (held_by u k e heads s g) ≡ false → {r : PolyZonotope} → r ≡ pack (drop_unused (held_by u k e heads s g))
-      → record { narrow = true; set = r } ≡ finished_as (finish weights h q m)
-  accepted f p =
-      ap (λ (r : PolyZonotope). record { narrow = true; set = r }) (p ∙ ap pack (sym finish-left)) ∙ sym (ap answer (finish-wide_as ∙ f))
+      → Some r ≡ finished_as (finish weights h q m)
+  accepted f p = ap Some (p ∙ ap pack (sym finish-left)) ∙ sym (ap answer (finish-wide_as ∙ f))

@@ -1,17 +1,17 @@
 -- Sets whose terms and generators are held in rows of 12 exponents and of 6 numbers.
-use Rattle.std.specs.Prelude.{◌≡◌, List, true, false, cond, ℕ, ◌*◌, ◌^◌, ◌≤◌, length, get_or, ℤ}
+use Rattle.std.specs.Prelude.{◌≡◌, List, cond, Option, Some, None, ℕ, ◌*◌, ◌^◌, ◌≤◌, length, get_or, ℤ}
 use Rattle.whole.specs.Tab.{tab}
 use Rattle.model.specs.Set.{Term, Zonotope, with_folded}
 use Rattle.model.specs.Valid.{is_too_wide}
 use Rattle.model.specs.Finish.{Core}
-use Rattle.model.specs.Run.{no_set}
 use Rattle.zonotope.specs.declared.WideRadii.{WideRadii}
+use Rattle.zonotope.specs.declared.PolyZonotope.{PolyZonotope}
 use Rattle.zonotope.specs.Record.{wide_parts_of, pack}
 use Rattle.rows.specs.Rows.{number_row, terms, rows_of, Places, Small}
 use Rattle.fold.specs.Folding.{Under, core_of}
 use Rattle.finish.specs.declared.Unfinished.{Unfinished}
 use Rattle.finish.specs.declared.Reduced.{Reduced}
-use Rattle.finish.specs.declared.Finished.{Finished}
+use Rattle.finish.specs.declared.Limits.{Limits}
 use Rattle.finish.specs.Wide.{wide}
 use Rattle.finish.specs.WideFinish.{Narrow}
 
@@ -45,8 +45,7 @@ pub record PartsUnder (b : ℕ) (r : WideRadii) : Type 0 where
 
 -- before the stages; `places` and `heads` are as long as there are rows
 pub record Reducible (u : Unfinished) (e : List ℕ) (c : List ℤ) (places heads : List ℕ) (s g : List ℤ)
-    (generators term_count_limit generator_count_limit : ℕ)
-    (weights : List ℕ) : Type 0 where
+    (generators : ℕ) (limits : Limits) : Type 0 where
   pub rows_few : length places ≤ 860
   pub exponents-long : length places * 12 ≤ length e
   pub exponents_few : length e ≤ 10320
@@ -60,20 +59,20 @@ pub record Reducible (u : Unfinished) (e : List ℕ) (c : List ℤ) (places head
   pub generators_small : Small (2 ^ 40) g
   pub centre_small : Small (2 ^ 40) u.centre
   pub radii_small : PartsUnder (2 ^ 40) u.radii
-  pub weights_small : Under 1000 weights
-  pub term-limit : term_count_limit ≤ 40
-  pub generator-limit : generator_count_limit ≤ 24
+  pub weights_small : Under 1000 limits.weights
+  pub term-limit : limits.terms ≤ 40
+  pub generator-limit : limits.generators ≤ 24
 
 -- before the folds, apart from the terms
-pub record Foldable (u : Unfinished) (g : List ℤ) (m term_count_limit generator_count_limit : ℕ) (weights : List ℕ) : Type 0 where
+pub record Foldable (u : Unfinished) (g : List ℤ) (m : ℕ) (limits : Limits) : Type 0 where
   pub generators_few : m ≤ 48
   pub generators_long : m * 6 ≤ length g
   pub generators_small : Small (2 ^ 50) g
   pub centre_small : Small (2 ^ 40) u.centre
   pub folded_small : Under (2 ^ 40) u.radii.folded
-  pub weights_small : Under 1000 weights
-  pub term-limit : term_count_limit ≤ 40
-  pub generator-limit : generator_count_limit ≤ 24
+  pub weights_small : Under 1000 limits.weights
+  pub term-limit : limits.terms ≤ 40
+  pub generator-limit : limits.generators ≤ 24
 
 -- of what is left
 pub record RowsLong (k : Reduced) (s g : List ℤ) : Type 0 where
@@ -99,6 +98,6 @@ pub record Widened (m : Zonotope) : Type 0 where
   pub is : m ≡ wide source
   pub narrow : Narrow source
 
--- the answer for a finished result
-abbrev pub finished_as : Zonotope → Finished
-finished_as m = cond (is_too_wide m) (record { narrow = false; set = pack no_set }) (record { narrow = true; set = pack m })
+-- the answer for a finished result: none where its span is too wide
+abbrev pub finished_as : Zonotope → Option PolyZonotope
+finished_as m = cond (is_too_wide m) None (Some (pack m))

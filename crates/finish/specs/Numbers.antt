@@ -1,10 +1,10 @@
 -- The numbers of a set that is held in rows, as a record holds them.
-use Rattle.std.specs.Prelude.{◌≡◌, List, [], ℕ, zero, suc, ◌+◌, ◌*◌, ◌/◌, ◌%◌, ◌≤◌, ◌<◌, length, get_or, ℤ, pos, nat_abs}
-use Rattle.std.proofs.Common.{sym, ap, subst, ◌∙◌, arith, ext_get_or}
+use Rattle.std.specs.Prelude.{◌≡◌, List, [], ℕ, zero, suc, ◌+◌, ◌*◌, ◌/◌, ◌%◌, ◌≤◌, ◌<◌, length, get_or, take, ℤ, pos, nat_abs}
+use Rattle.std.proofs.Common.{sym, ap, subst, ◌∙◌, arith, ext_get_or, length-take-le}
 use Rattle.std.proofs.Math.Decide.{dec_lt}
 use Rattle.whole.specs.Sum.{upto_by, upto_ℕ}
 use Rattle.whole.specs.Tab.{tab, length-tab, get_d_tab, get_d_tab_past}
-use Rattle.whole.specs.Write.{write, write-length, write-at, write-after}
+use Rattle.whole.specs.Write.{write, write-length, write-at, write-after, write_cong, get_d_take}
 use Rattle.model.specs.Limits.{max_span}
 use Rattle.model.specs.Set.{Radii, at, radius_of, with_folded}
 use Rattle.zonotope.specs.declared.WideRadii.{WideRadii}
@@ -69,6 +69,19 @@ numbers-array zs w s n l z h =
         write-after zs 0 (at s) (pos 0) (n * 6) x (omega arith)
         ∙ z x
         ∙ ap (λ (v : List ℤ). at v (x % 6)) (sym (get_d_tab_past n (number_row s) [] (x / 6) (omega arith)))
+
+-- the part of a slice that holds the first n numbers: no span exceeds them, and written they are those of the slice
+module _ (n : ℕ) (s : List ℤ) (h : n ≤ length s) where
+  pub taken-within : WithinSpan n s → WithinSpan (length (take n s)) (take n s)
+  taken-within w = record {
+    within = λ x l.
+        let k : x < n = omega (arith, length-take-le n s h) in
+        rw (get_d_take n s x (pos 0) k) (w.within x k);
+  }
+
+  pub written-taken : (zs : List ℤ) → write zs 0 (at (take n s)) (length (take n s)) ≡ write zs 0 (at s) n
+  written-taken zs =
+      ap (write zs 0 (at (take n s))) (length-take-le n s h) ∙ write_cong zs 0 _ _ n (λ k l. get_d_take n s k (pos 0) l)
 
 -- ---- a span that isn't too wide bounds every number
 upto_has : (f : ℕ → ℕ) (n t : ℕ) → t < n → f t ≤ upto_ℕ f n

@@ -1,8 +1,7 @@
 -- The span of a set whose terms and generators are held in rows.
-use Rattle.std.specs.Prelude.{◌≡◌, refl, List, [], ◌∷◌, ◌++◌, true, false, ℕ, zero, suc, ◌+◌, ◌*◌, ◌^◌, ◌≤◌, ◌<◌, get_or, ℤ, pos}
-use Rattle.std.proofs.Math.Path.{ap, ap₂}
+use Rattle.std.specs.Prelude.{◌≡◌, refl, List, [], ◌∷◌, ◌++◌, ℕ, zero, suc, ◌+◌, ◌*◌, ◌^◌, ◌≤◌, ◌<◌, get_or, ℤ, pos}
+use Rattle.std.proofs.Math.Path.{sym, ap, ap₂}
 use Rattle.std.proofs.Common.{◌∙◌, add-one, arith}
-use borrow.Author.Tests.{lt-ltb, le-ltb}
 use Rattle.std.proofs.Math.Dec.{ltb}
 use Rattle.std.proofs.Math.IntN.{nat_abs}
 use Rattle.whole.specs.Sum.{monoid_ℕ, sum_by, sum_ℕ, sum-++, upto_by, upto_ℕ, upto_cong}
@@ -11,7 +10,7 @@ use Rattle.model.specs.Limits.{max_span}
 use Rattle.model.specs.Set.{at, radius_of, term_sizes, generator_sizes, span, with_folded}
 use Rattle.model.specs.Valid.{is_too_wide}
 use Rattle.rows.specs.Rows.{number_row, term_of, terms}
-use Rattle.whole.specs.Tests.{any_found, any_none}
+use Rattle.whole.specs.Tests.{some_below, any_cong}
 use Rattle.zonotope.specs.declared.WideRadii.{WideRadii}
 use Rattle.zonotope.specs.Record.{wide_parts_of}
 use Rattle.finish.specs.declared.Unfinished.{Unfinished}
@@ -52,19 +51,12 @@ module _ (u : Unfinished) (k : Reduced) (e heads : List ℕ) (s g : List ℤ) wh
       (column_sum (λ t. t.coefficients) k.terms (λ t. term_of e s (get_or heads t 0) t) s (λ t. refl) i h)
       (column_sum (λ v. v) k.generators (number_row g) g (λ t. refl) i h)
 
-  -- ---- as a loop with early return finds it
-  module _ (few : u.dimension ≤ 6) where
-    pub too_wide : (i : ℕ) → i < u.dimension → max_span < held_span u.radii k s g i → is_too_wide (held_by u k e heads s g) ≡ true
-    unfolding is_too_wide
-    too_wide i l h =
-        any_found (λ j. ltb max_span (span (held_by u k e heads s g) j)) u.dimension (λ j. j) i l
-        (ap (ltb max_span) (span-held i (omega arith)) ∙ lt-ltb max_span _ h)
-
-    pub not-too_wide : ((i : ℕ) → i < u.dimension → held_span u.radii k s g i ≤ max_span) → is_too_wide (held_by u k e heads s g) ≡ false
-    unfolding is_too_wide
-    not-too_wide h =
-        any_none (λ j. ltb max_span (span (held_by u k e heads s g) j)) u.dimension (λ j. j)
-        (λ i l. ap (ltb max_span) (span-held i (omega arith)) ∙ le-ltb max_span _ (h i l))
+  -- whether one of them is too wide
+  pub wide-held : u.dimension ≤ 6 → some_below u.dimension (λ i. ltb max_span (held_span u.radii k s g i)) ≡ is_too_wide (held_by u k e heads s g)
+  unfolding is_too_wide
+  wide-held few =
+      any_cong _ (λ i. ltb max_span (span (held_by u k e heads s g) i)) u.dimension (λ i. i)
+      (λ i l. ap (ltb max_span) (sym (span-held i (omega arith))))
 
 -- ---- a coordinate's parts fit 64 bits together
 pub span_fits : {k : Reduced} {s g : List ℤ} → RowsLong k s g → (i a b c : ℕ) → a ≤ k.terms * 2 ^ 50 → b ≤ k.generators * 2 ^ 50

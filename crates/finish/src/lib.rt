@@ -34,15 +34,16 @@ pub struct Reduced {
     pub folded: [u64; 6],
 }
 
-// The record of a finished result, or that its span is too wide, with the record of no set.
+// How many terms and generators a finished set may have, and the weights by which the smallest ones are found.
 #[derive(Clone, Copy)]
-pub struct Finished {
-    pub narrow: bool,
-    pub set: zonotope::PolyZonotope,
+pub struct Limits {
+    pub terms: usize,
+    pub generators: usize,
+    pub weights: [u64; 6],
 }
 
-// The result with the first places.len() rows of e and c as its terms and the first rows of g as its generators, finished. `places`,
-// `heads` and s are work space, and g is worked in too.
+// The record of the result with the first places.len() rows of e and c as its terms and the first rows of g as its generators, finished;
+// none where its span is too wide. `places`, `heads` and s are work space, and g is worked in too.
 pub fn finish(
     u: Unfinished,
     e: &[u8],
@@ -52,38 +53,22 @@ pub fn finish(
     s: &mut [i64],
     g: &mut [i64],
     generators: usize,
-    term_limit: usize,
-    generator_limit: usize,
-    weights: [u64; 6],
-) -> Finished
-    requires { Reducible u e.now c.now places.old heads.old s.old g.old generators term_limit generator_limit weights
+    limits: Limits,
+) -> Option<zonotope::PolyZonotope>
+    requires { Reducible u e.now c.now places.old heads.old s.old g.old generators limits
         × Widened (held u e.now c.now (length places.old) g.old generators) }
-    ensures value { result ≡ finished_as (finish weights term_limit generator_limit
+    ensures value { result ≡ finished_as (finish limits.weights limits.terms limits.generators
         (held u e.now c.now (length places.old) g.old generators)) }
     ensures places { LeftOpen places.old places.new }
     ensures heads { LeftOpen heads.old heads.new }
     ensures rows { LeftOpen s.old s.new }
     ensures generators { LeftOpen g.old g.new }
 {
-    let k = reduce(
-        u,
-        e,
-        c,
-        places,
-        heads,
-        s,
-        g,
-        generators,
-        term_limit,
-        generator_limit,
-        weights,
-    );
+    let k = reduce(u, e, c, places, heads, s, g, generators, limits);
     if span::too_wide(u, k, s, g) {
-        let set = zonotope::empty();
-        return Finished { narrow: false, set };
+        return None;
     }
-    let set = record::pack(u, k, e, heads, s, g);
-    Finished { narrow: true, set }
+    Some(record::pack(u, k, e, heads, s, g))
 }
 
 // All stages of finishing but the last.
@@ -96,29 +81,16 @@ fn reduce(
     s: &mut [i64],
     g: &mut [i64],
     generators: usize,
-    term_limit: usize,
-    generator_limit: usize,
-    weights: [u64; 6],
+    limits: Limits,
 ) -> Reduced
-    requires { Reducible u e.now c.now places.old heads.old s.old g.old generators term_limit generator_limit weights }
+    requires { Reducible u e.now c.now places.old heads.old s.old g.old generators limits }
     ensures { Holds u result e.now heads.new s.new g.new
-        (reduced weights term_limit generator_limit
+        (reduced limits.weights limits.terms limits.generators
         (held u e.now c.now (length places.old) g.old generators)) }
 {
     let n = gather(e, c, places, heads, s);
     let m = rows::drop_zero_rows(g, generators);
-    fold_rest(
-        u,
-        e,
-        heads,
-        s,
-        n,
-        g,
-        m,
-        term_limit,
-        generator_limit,
-        weights,
-    )
+    fold_rest(u, e, heads, s, n, g, m, limits)
 }
 
 // The rows of e and c as terms: sorted, equal ones added, all-zero ones dropped. Rows that are all zero from the start are left out before
@@ -145,33 +117,39 @@ fn fold_rest(
     n: usize,
     g: &mut [i64],
     m: usize,
-    term_limit: usize,
-    generator_limit: usize,
-    weights: [u64; 6],
+    limits: Limits,
 ) -> Reduced
-    requires { Ready e.now heads.old s.old n × Foldable u g.old m term_limit generator_limit weights }
+    requires { Ready e.now heads.old s.old n × Foldable u g.old m limits }
     ensures { Holds u result e.now heads.new s.new g.new
-        (fold_generators weights generator_limit (fold_terms weights term_limit (fold_high
+        (fold_generators limits.weights limits.generators (fold_terms limits.weights limits.terms (fold_high
         (set_of u (core_of u.centre u.radii.folded) (terms e.now heads.old s.old n)
         (tab m (number_row g.old)))))) }
 {
-    let centre = u.centre;
-    let folded = u.radii.folded;
-    let low = select::fold_high(e, heads, s, n, centre, folded);
-    let low_centre = low.centre;
-    let low_folded = low.radii;
+    let low = select::fold_high(e, heads, s, n, u.centre, u.radii.folded);
     let few = select::fold_terms(
-        e, heads, s, low.count, term_limit, weights, low_centre, low_folded,
+        e,
+        heads,
+        s,
+        low.count,
+        limits.terms,
+        limits.weights,
+        low.centre,
+        low.radii,
     );
-    let few_centre = few.centre;
-    let few_folded = few.radii;
-    let kept = select::fold_generators(g, m, generator_limit, weights, few_centre, few_folded);
-    let kept_centre = kept.centre;
-    let kept_folded = kept.radii;
+    let kept = select::fold_generators(
+        g,
+        m,
+        limits.generators,
+        limits.weights,
+        few.centre,
+        few.radii,
+    );
+    let centre = kept.centre;
+    let folded = kept.radii;
     Reduced {
         terms: few.count,
         generators: kept.count,
-        centre: kept_centre,
-        folded: kept_folded,
+        centre,
+        folded,
     }
 }

@@ -23,17 +23,14 @@ pub fn pack(
     requires { Packable u k e.now heads.now s.now g.now }
     ensures { result ≡ pack (drop_unused (held_by u k e.now heads.now s.now g.now)) }
 {
-    let ids = u.identifiers;
-    let f = factors::drop_unused(e, heads, k.terms, ids);
+    let f = factors::drop_unused(e, heads, k.terms, u.identifiers);
     let identifiers = f.identifiers;
     let exponents = f.exponents;
-    let numbers = narrow_all(k, s, g);
-    let centre = numbers.centre;
-    let coefficients = numbers.coefficients;
-    let vectors = numbers.vectors;
-    let parts = u.radii;
-    let folded = k.folded;
-    let radii = narrow_radii(parts, folded);
+    let Numbers {
+        centre,
+        coefficients,
+        vectors,
+    } = narrow_all(k, s, g);
     zonotope::PolyZonotope {
         dimension: u.dimension,
         factors: f.count,
@@ -44,7 +41,7 @@ pub fn pack(
         exponents,
         coefficients,
         vectors,
-        radii,
+        radii: narrow_radii(u.radii, k.folded),
     }
 }
 
@@ -61,28 +58,24 @@ fn narrow_all(k: super::Reduced, s: &[i64], g: &[i64]) -> Numbers
     requires { Narrowable k s.now g.now }
     ensures { Narrowed k s.now g.now result.centre result.coefficients result.vectors }
 {
-    let wide = k.centre;
-    let mut centre = [0i32; 6];
-    narrow_numbers(&mut centre, &wide, 6);
-    let mut coefficients = [0i32; 240];
-    narrow_numbers(&mut coefficients, s, k.terms * 6);
-    let mut vectors = [0i32; 144];
-    narrow_numbers(&mut vectors, g, k.generators * 6);
-    Numbers {
-        centre,
-        coefficients,
-        vectors,
-    }
+    let mut numbers = Numbers {
+        centre: [0; 6],
+        coefficients: [0; 240],
+        vectors: [0; 144],
+    };
+    narrow_numbers(&mut numbers.centre, &k.centre);
+    narrow_numbers(&mut numbers.coefficients, &s[..k.terms * 6]);
+    narrow_numbers(&mut numbers.vectors, &g[..k.generators * 6]);
+    numbers
 }
 
-// The first n places of `out` become the first n numbers of s.
-fn narrow_numbers(out: &mut [i32], s: &[i64], n: usize)
-    requires { (n ≤ length out.old) × (n ≤ length s.now) × WithinSpan n s.now }
-    ensures { out.new ≡ write out.old 0 (λ x. get_or s.now x (pos 0)) n }
+// The first places of `out` become the numbers of s.
+fn narrow_numbers(out: &mut [i32], s: &[i64])
+    requires { (length s.now ≤ length out.old) × WithinSpan (length s.now) s.now }
+    ensures { out.new ≡ write out.old 0 (λ x. get_or s.now x (pos 0)) (length s.now) }
 {
-    for x in 0..n {
-        let v = s[x];
-        out[x] = narrow(v);
+    for (i, x) in s.iter().enumerate() {
+        out[i] = narrow(*x);
     }
 }
 
@@ -99,18 +92,11 @@ fn narrow_radii(r: WideRadii, folded: [u64; 6]) -> Radii
     requires { PartsNarrow (with_folded (wide_parts_of r) folded) }
     ensures { result ≡ packed_radii (with_folded (wide_parts_of r) folded) }
 {
-    let wide_carried = r.carried;
-    let wide_rounded = r.rounded;
-    let wide_given = r.given;
-    let carried = narrow_part(wide_carried);
-    let rounded = narrow_part(wide_rounded);
-    let few = narrow_part(folded);
-    let given = narrow_part(wide_given);
     Radii {
-        carried,
-        rounded,
-        folded: few,
-        given,
+        carried: narrow_part(r.carried),
+        rounded: narrow_part(r.rounded),
+        folded: narrow_part(folded),
+        given: narrow_part(r.given),
     }
 }
 
@@ -119,9 +105,9 @@ fn narrow_part(part: [u64; 6]) -> [u32; 6]
     requires { (i : ℕ) → i < 6 → get_or part i 0 ≤ max_span }
     ensures { result ≡ firsts 6 part }
 {
-    let mut out = [0u32; 6];
-    for i in 0..6 {
-        out[i] = part[i] as u32;
+    let mut out = [0; 6];
+    for (i, x) in part.iter().enumerate() {
+        out[i] = *x as u32;
     }
     out
 }

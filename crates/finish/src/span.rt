@@ -11,21 +11,14 @@ ghost use Rattle.finish.specs.Spans.{column_size, held_span};
 use zonotope::WideRadii;
 
 // The largest span of a coordinate.
-const SPAN_LIMIT: u64 = 1048576;
+const SPAN_LIMIT: u64 = zonotope::MAX_SPAN;
 
 // Whether the span of one of the set's coordinates is too wide.
 pub fn too_wide(u: super::Unfinished, k: super::Reduced, s: &[i64], g: &[i64]) -> bool
     requires { (u.dimension ≤ 6) × PartsUnder (2 ^ 40) u.radii × RowsLong k s.now g.now }
     ensures { (e heads : List ℕ) → result ≡ is_too_wide (held_by u k e heads s.now g.now) }
 {
-    let n = u.dimension;
-    let parts = u.radii;
-    for i in 0..n {
-        if span_at(parts, k, s, g, i) > SPAN_LIMIT {
-            return true;
-        }
-    }
-    false
+    (0..u.dimension).any(|i| span_at(u.radii, k, s, g, i) > SPAN_LIMIT)
 }
 
 // The span of coordinate i.
@@ -33,12 +26,9 @@ fn span_at(parts: WideRadii, k: super::Reduced, s: &[i64], g: &[i64], i: usize) 
     requires { (i < 6) × PartsUnder (2 ^ 40) parts × RowsLong k s.now g.now }
     ensures { result ≡ held_span parts k s.now g.now i }
 {
-    let centre = k.centre;
-    let folded = k.folded;
     let terms = column_size(s, k.terms, i);
     let generators = column_size(g, k.generators, i);
-    let x = centre[i];
-    whole::size(x) + terms + generators + radius_at(parts, folded, i)
+    k.centre[i].unsigned_abs() + terms + generators + radius_at(parts, k.folded, i)
 }
 
 // The radius of coordinate i with these folded parts.
@@ -46,10 +36,7 @@ fn radius_at(parts: WideRadii, folded: [u64; 6], i: usize) -> u64
     requires { (i < 6) × PartsUnder (2 ^ 40) parts × Under (2 ^ 61) folded }
     ensures { (result ≡ radius_of (with_folded (wide_parts_of parts) folded) i) × (result ≤ 2 ^ 61 + 3 * 2 ^ 40) }
 {
-    let carried = parts.carried;
-    let rounded = parts.rounded;
-    let given = parts.given;
-    carried[i] + rounded[i] + folded[i] + given[i]
+    parts.carried[i] + parts.rounded[i] + folded[i] + parts.given[i]
 }
 
 // The sizes at coordinate i of the first n rows together.
@@ -57,10 +44,9 @@ fn column_size(s: &[i64], n: usize, i: usize) -> u64
     requires { (n ≤ 40) × (i < 6) × (n * 6 ≤ length s.now) × Small (2 ^ 50) s.now }
     ensures { (result ≡ column_size s.now n i) × (result ≤ n * 2 ^ 50) }
 {
-    let mut sum: u64 = 0;
+    let mut sum = 0;
     for t in 0..n {
-        let x = s[t * 6 + i];
-        sum += whole::size(x);
+        sum += s[t * 6 + i].unsigned_abs();
     }
     sum
 }

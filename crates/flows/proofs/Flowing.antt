@@ -18,7 +18,7 @@ use Rattle.streams.proofs.Ending.{fed-place, fed_no_more, fed-falls}
 use Rattle.console.specs.declared.Filled.{Filled}
 use Rattle.console.specs.declared.Output.{Output}
 use Rattle.console.specs.Trace.{wrote, FilledFrom}
-use Rattle.console.specs.History.{Read, Write}
+use Rattle.console.specs.History.{Read, Write, Told}
 use Rattle.console.specs.Streams.{Streams}
 use Rattle.console.proofs.Traces.{told-nothing, told_read, told_wrote}
 use Rattle.console.proofs.Streams.{follows_begins, follows_read, follows_wrote, streams}
@@ -179,7 +179,7 @@ module _ {P : Type 0} {g : Program P} (sound : Sound g) where
         progress = next;
         held = held.held - used;
         ended = held.ended;
-        unread = false;
+        unread = held.unread;
         failed = not whole;
         input = held.input;
         output = o;
@@ -204,8 +204,9 @@ module _ {P : Type 0} {g : Program P} (sound : Sound g) where
         within = omega (arith, a.within);
         reads = a.reads;
         writes = a.writes ++ (now_written ∷ []);
-        told = told_wrote a.told came went t.text whole (sent ∙ ap (λ y. wrote held.output y whole) text-written);
-        stopped = λ e. absurd (true≢false (sym e));
+        told = subst (λ b. Told held.input o held.ended b (not whole) a.reads (a.writes ++ (now_written ∷ []))) (sym came)
+            (told_wrote a.told came went t.text whole (sent ∙ ap (λ y. wrote held.output y whole) text-written));
+        stopped = λ e. absurd (true≢false (sym e ∙ came));
         prints = follows_wrote a.prints _ now_written left_then;
       }
 
@@ -248,7 +249,8 @@ module _ {P : Type 0} {g : Program P} (sound : Sound g) where
         turn_falls : calls_left g then < calls_left g f
         turn_falls =
             subst (λ n. calls_left g then < n) (sym (calls-left f good))
-            (omega (arith, subst (λ q. ahead next (held.held - used) < ahead q f.held) refilled.progress from-here))
+            (subst (λ n. n < suc (ahead f.progress f.held)) (sym (calls-left then came))
+            (omega (arith, subst (λ q. ahead next (held.held - used) < ahead q f.held) refilled.progress from-here)))
 
         pub turn_done : Along g then after × (calls_left g then < calls_left g f)
         turn_done = (turn_along, turn_falls)

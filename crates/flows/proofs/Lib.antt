@@ -1,5 +1,3 @@
 -- Laws that the proofs of programs cite.
 --     Flowing   a turn of the program keeps what it knows, and fewer can follow; its end
---     Shifted   bytes moved to the start of a buffer
 pub mod Flowing
-pub mod Shifted

@@ -10,12 +10,5 @@ pub fn shift(buf: &mut [u8], from: usize, to: usize)
     requires { (from ≤ to) × (to ≤ length buf.old) }
     ensures { take (to - from) buf.new ≡ drop from (take to buf.old) }
 {
-    if from == 0 {
-        return;
-    }
-    let mut i = from;
-    while i < to {
-        buf[i - from] = buf[i];
-        i += 1;
-    }
+    buf.copy_within(from..to, 0);
 }

@@ -2,7 +2,7 @@
 // fold some rows and keep the others.
 #![tactic(auto)]
 
-ghost use Rattle.std.specs.Prelude.{◌≡◌, List, map, ℕ, ◌+◌, ◌*◌, ◌^◌, ◌≤◌, ◌<◌, length, get_or, drop, nat_abs, ltb};
+ghost use Rattle.std.specs.Prelude.{◌≡◌, List, map, Bool, ℕ, ◌+◌, ◌*◌, ◌^◌, ◌≤◌, ◌<◌, length, get_or, drop, ltb};
 ghost use Rattle.model.specs.Limits.{max_exponent};
 ghost use Rattle.model.specs.Set.{plus_ℤ, plus_ℕ};
 ghost use Rattle.model.specs.Finish.{all_even, shift, growth, size};
@@ -11,89 +11,75 @@ ghost use Rattle.rows.specs.WorkSpace.{LeftOpen};
 ghost use Rattle.rows.specs.Rows.{exponent_row, number_row, Places, Small};
 ghost use Rattle.fold.specs.Chosen.{chosen};
 ghost use Rattle.fold.specs.Marks.{unmarked};
-ghost use Rattle.fold.specs.Folding.{Under, Folding};
+ghost use Rattle.fold.specs.Folding.{Under, core_of, folded, Bounded};
 
 // A centre and radii.
-#[derive(Drop)]
+#[derive(Clone, Copy)]
 pub struct Core {
     pub centre: [i64; 6],
     pub radii: [u64; 6],
 }
 
-// The centre and radii after those of the first n rows that `gone` marks are folded, as even ones where `even` marks them.
-pub fn fold_rows(
-    s: &[i64],
-    n: usize,
-    gone: &[bool],
-    even: &[bool],
-    centre: [i64; 6],
-    radii: [u64; 6],
-) -> Core
-    requires { (n ≤ 860) × (n * 6 ≤ length s.now) × (n ≤ length gone.now) × (n ≤ length even.now) × Small (2 ^ 50) s.now
-        × Small (2 ^ 61) centre × Under (2 ^ 61) radii }
-    ensures { Folding s.now gone.now even.now centre radii n result.centre result.radii }
+// The core after those of the first rows that `gone` marks are folded, as even ones where `even` says so of their place.
+pub fn fold_rows<F: Fn(usize) -> bool>(s: &[i64], gone: &[bool], even: F, core: Core) -> Core
+    requires rows { (length gone.now ≤ 860) × (length gone.now * 6 ≤ length s.now) × Small (2 ^ 50) s.now
+        × Small (2 ^ 61) core.centre × Under (2 ^ 61) core.radii }
+    requires places { (k : ℕ) → k < length gone.now → F.pre even k }
+    ensures folds { (b : ℕ → Bool) → ((k : ℕ) (r : Bool) → k < length gone.now → F.post even k r → r ≡ b k)
+        → core_of result.centre result.radii
+        ≡ folded s.now gone.now b (length gone.now) (core_of core.centre core.radii) }
+    ensures bounds { Bounded (length gone.now) core.centre result.centre core.radii result.radii }
 {
-    let mut c = centre;
-    let mut r = radii;
-    let mut k = 0;
-    while k < n {
-        if gone[k] {
-            let moved = shifted(c, s, k, even[k]);
-            let wider = grown(r, s, k, even[k]);
-            c = moved;
-            r = wider;
-            k += 1;
-        } else {
-            k += 1;
+    let mut folded = core;
+    for (k, gone) in gone.iter().enumerate() {
+        if !*gone {
+            continue;
         }
+        let row = rows::number_row(s, k);
+        let halved = even(k);
+        folded = Core {
+            centre: shifted(folded.centre, row, halved),
+            radii: grown(folded.radii, row, halved),
+        };
     }
-    Core {
-        centre: c,
-        radii: r,
-    }
+    folded
 }
 
-// Of the first n rows those that `gone` doesn't mark, in their order. The answer is how many there are.
-pub fn keep_rows(s: &mut [i64], n: usize, gone: &[bool]) -> usize
-    requires { (n * 6 ≤ length s.old) × (n ≤ length gone.now) }
-    ensures upper_bound { (result ≤ n)
-        × (tab result (number_row s.new) ≡ map (number_row s.old) (chosen (unmarked gone.now) n))
+// Of the first rows those that `gone` doesn't mark, in their order. The answer is how many there are.
+pub fn keep_rows(s: &mut [i64], gone: &[bool]) -> usize
+    requires { length gone.now * 6 ≤ length s.old }
+    ensures upper_bound { (result ≤ length gone.now)
+        × (tab result (number_row s.new) ≡ map (number_row s.old) (chosen (unmarked gone.now) (length gone.now)))
         × ((b : ℕ) → Small b s.old → Small b s.new) }
     ensures later_rows { LeftOpen (drop (result * 6) s.old) (drop (result * 6) s.new) }
 {
     let mut m = 0;
-    let mut k = 0;
-    while k < n {
-        if gone[k] {
-            k += 1;
-        } else {
-            rows::move_row(s, m, k);
-            m += 1;
-            k += 1;
+    for (k, gone) in gone.iter().enumerate() {
+        if *gone {
+            continue;
         }
+        rows::move_row(s, m, k);
+        m += 1;
     }
     m
 }
 
-// Of the first n places those that `gone` doesn't mark, in their order. The answer is how many there are.
-pub fn keep_places(heads: &mut [u16], n: usize, gone: &[bool]) -> usize
-    requires { (n ≤ length heads.old) × (n ≤ length gone.now) }
-    ensures upper_bound { (result ≤ n)
-        × (tab result (λ k. get_or heads.new k 0) ≡ map (λ k. get_or heads.old k 0) (chosen (unmarked gone.now) n))
+// Of the first places those that `gone` doesn't mark, in their order. The answer is how many there are.
+pub fn keep_places(heads: &mut [u16], gone: &[bool]) -> usize
+    requires { length gone.now ≤ length heads.old }
+    ensures upper_bound { (result ≤ length gone.now)
+        × (tab result (λ k. get_or heads.new k 0)
+        ≡ map (λ k. get_or heads.old k 0) (chosen (unmarked gone.now) (length gone.now)))
         × ((e : List ℕ) → Places e heads.old → Places e heads.new) }
     ensures later_places { LeftOpen (drop result heads.old) (drop result heads.new) }
 {
     let mut m = 0;
-    let mut k = 0;
-    while k < n {
-        if gone[k] {
-            k += 1;
-        } else {
-            let x = heads[k];
-            heads[m] = x;
-            m += 1;
-            k += 1;
+    for (k, gone) in gone.iter().enumerate() {
+        if *gone {
+            continue;
         }
+        heads[m] = heads[k];
+        m += 1;
     }
     m
 }
@@ -114,53 +100,40 @@ pub fn is_high(e: &[u8], x: usize) -> bool
     !rows::clear_of(e, x, 192)
 }
 
-// The size of row k: the sum of weight times |number|.
-pub fn row_size(s: &[i64], k: usize, weights: [u64; 6]) -> u64
-    requires { (k * 6 + 6 ≤ length s.now) × Small (2 ^ 50) s.now × Under 1000 weights }
-    ensures { (result ≡ size weights (number_row s.now k)) × (result ≤ 6000 * 2 ^ 50) }
+// The size of a row: the sum of weight times |number|.
+pub fn row_size(row: &[i64], weights: &[u64; 6]) -> u64
+    requires { (length row.now ≡ 6) × Small (2 ^ 50) row.now × Under 1000 weights.now }
+    ensures { (result ≡ size weights.now row.now) × (result ≤ 6000 * 2 ^ 50) }
 {
-    let mut sum: u64 = 0;
-    for j in 0..6 {
-        let g = s[k * 6 + j];
-        sum = add_weighed(sum, weights[j], g);
+    let mut sum = 0;
+    for (weight, g) in weights.iter().zip(row) {
+        sum += weight * g.unsigned_abs();
     }
     sum
 }
 
-// The centre after row k is folded.
-pub fn shifted(centre: [i64; 6], s: &[i64], k: usize, even: bool) -> [i64; 6]
-    requires { (k * 6 + 6 ≤ length s.now) × Small (2 ^ 62) centre × Small (2 ^ 50) s.now }
-    ensures { result ≡ plus_ℤ centre (map (shift even) (number_row s.now k)) }
+// The centre after a row is folded.
+fn shifted(centre: [i64; 6], row: &[i64], even: bool) -> [i64; 6]
+    requires { (length row.now ≡ 6) × Small (2 ^ 62) centre × Small (2 ^ 50) row.now }
+    ensures { result ≡ plus_ℤ centre (map (shift even) row.now) }
 {
-    let mut out = centre;
-    for j in 0..6 {
-        let a = centre[j];
-        let g = s[k * 6 + j];
-        let d = shift_by(even, g);
-        out[j] = whole::add(a, d);
+    let mut moved = centre;
+    for (j, c) in moved.iter_mut().enumerate() {
+        *c += shift_by(even, row[j]);
     }
-    out
+    moved
 }
 
-// The radii after row k is folded.
-pub fn grown(radii: [u64; 6], s: &[i64], k: usize, even: bool) -> [u64; 6]
-    requires { (k * 6 + 6 ≤ length s.now) × Under (2 ^ 62) radii × Small (2 ^ 50) s.now }
-    ensures { result ≡ plus_ℕ radii (map (growth even) (number_row s.now k)) }
+// The radii after a row is folded.
+fn grown(radii: [u64; 6], row: &[i64], even: bool) -> [u64; 6]
+    requires { (length row.now ≡ 6) × Under (2 ^ 62) radii × Small (2 ^ 50) row.now }
+    ensures { result ≡ plus_ℕ radii (map (growth even) row.now) }
 {
-    let mut out = radii;
-    for j in 0..6 {
-        let g = s[k * 6 + j];
-        out[j] = radii[j] + growth_by(even, g);
+    let mut wider = radii;
+    for (j, r) in wider.iter_mut().enumerate() {
+        *r += growth_by(even, row[j]);
     }
-    out
-}
-
-// One more weighed number in a size.
-fn add_weighed(sum: u64, weight: u64, g: i64) -> u64
-    requires { (sum ≤ 2 ^ 63) × (weight ≤ 1000) × (nat_abs g ≤ 2 ^ 50) }
-    ensures { (result ≡ sum + weight * nat_abs g) × (result ≤ sum + 1000 * 2 ^ 50) }
-{
-    sum + weight * whole::size(g)
+    wider
 }
 
 // How far folding a coefficient moves the centre.
@@ -177,6 +150,6 @@ fn growth_by(even: bool, g: i64) -> u64
     if even {
         whole::half_size_up(g)
     } else {
-        whole::size(g)
+        g.unsigned_abs()
     }
 }

@@ -1,20 +1,17 @@
--- Loops that fill an array from its first place on, or a run of places of a slice: what holds at each turn, and what at the end.
+-- A run of places of a slice that is filled: by a loop, what holds at each turn and at the end, or by a copy.
 use Rattle.std.specs.Prelude.{List, ◌≡◌, refl, ℕ, ◌+◌, ◌<◌, ◌≤◌, length, get_or, set}
 use Rattle.std.proofs.Common.{sym, ◌∙◌, ap, ap₂, subst, arith, length-set}
-use Rattle.whole.specs.Tab.{tab}
-use Rattle.whole.specs.Write.{write, write_none, write-length, write_again, write_on, write-at, write-all}
+use Rattle.whole.specs.Tab.{tab, tab_cong, tab_get_d}
+use Rattle.std.proofs.Common.{take, drop, length-drop, ◌++◌}
+use Rattle.std.proofs.Math.Seq.{length-take-le}
+use borrow.Rule.Slice.PartMut.{put_mid}
+use Rattle.whole.specs.Write.{write, write_none, write-length, write_again, write_on, write-at, write-all, write-part, get_d_take}
 
 -- k of n places of a slice that held ws are written, from place `at` on
 pub record Writing {X : Type 0} (ws : List X) (at : ℕ) (f : ℕ → X) (n k : ℕ) (w : List X) : Type 0 where
   pub inside : k ≤ n
   pub written : w ≡ write ws at f k
   pub long : length w ≡ length ws
-
--- k of all N places of an array are written
-pub record Filling {X : Type 0} (N : ℕ) (f : ℕ → X) (ws : List X) (k : ℕ) (w : List X) : Type 0 where
-  pub inside : k ≤ N
-  pub written : w ≡ write ws 0 f k
-  pub long : length w ≡ N
 
 module _ {X : Type 0} (ws : List X) (at : ℕ) (f : ℕ → X) (n : ℕ) where
   pub writing_begins : Writing ws at f n 0 ws
@@ -61,29 +58,16 @@ module _ {X : Type 0} (ws : List X) (f : ℕ → X) where
   pub first-at : (d : X) (n k : ℕ) → k < n → n ≤ length ws → get_or (write ws 0 f n) k d ≡ f k
   first-at d n k h l = ap (λ (i : ℕ). get_or (write ws 0 f n) i d) (first-place k) ∙ write-at ws 0 f d n k h (omega arith)
 
-module _ {X : Type 0} (N : ℕ) (f : ℕ → X) (ws : List X) where
-  pub filling_begins : length ws ≡ N → Filling N f ws 0 ws
-  filling_begins l = record { inside = omega arith; written = sym (write_none ws 0 f); long = l }
+-- n elements that are copied into their places
+pub copied : {X : Type 0} (ws : List X) (at k n : ℕ) (f : ℕ → X) (d : X) (row : List X) → k ≡ n → at + n ≤ length ws → row ≡ tab n f
+    → put_mid at k ws row ≡ write ws at f n
+copied ws at k n f d row same l e =
+    let long : length (take n (drop at ws)) ≡ n = length-take-le n (drop at ws) (omega (arith, length-drop at ws)) in
+    rw (same, e, ← write-all (take n (drop at ws)) f d n long) (write-part ws at n f l n (omega arith))
 
-  pub filling_again : (k : ℕ) (w : List X) (v : X) → Filling N f ws k w → k < N → v ≡ f k → Filling N f ws (k + 1) (set w k v)
-  filling_again k w v h l e = record {
-    inside = omega arith;
-    written = ap (λ (i : ℕ). set w i v) (first-place k) ∙ write_again ws 0 f w k v h.written e;
-    long = length-set w k v ∙ h.long;
-  }
-
-  -- a run of m places at once
-  pub filling_on : (k m j : ℕ) (w w' : List X) (g : ℕ → X) → Filling N f ws k w → j ≡ k + m → j ≤ N → w' ≡ write w k g m
-      → ((l : ℕ) → l < m → g l ≡ f (k + l)) → Filling N f ws j w'
-  filling_on k m j w w' g h e l p q = record {
-    inside = l;
-    written = continued ws f k m j w w' g h.written e p q;
-    long = ap length p ∙ write-length w k g m ∙ h.long;
-  }
-
-  pub filling_ends : (d : X) (k : ℕ) (w : List X) → Filling N f ws k w → N ≤ k → w ≡ tab N f
-  filling_ends d k w h l =
-      let i = h.inside in
-      let t : k ≡ N = omega arith in
-      let e : w ≡ write ws 0 f N = h.written ∙ ap (write ws 0 f) t in
-      e ∙ write-all ws f d N (sym (write-length ws 0 f N) ∙ ap length (sym e) ∙ h.long)
+-- the first n elements of a list, copied to the start of another
+pub copied-first : {X : Type 0} (ws xs : List X) (n : ℕ) (d : X) → n ≤ length ws → n ≤ length xs
+    → take n xs ++ drop n ws ≡ write ws 0 (λ x. get_or xs x d) n
+copied-first ws xs n d l m =
+    copied ws 0 n n (λ x. get_or xs x d) d (take n xs) refl (omega arith)
+    (sym (tab_get_d n (take n xs) d (length-take-le n xs m)) ∙ tab_cong n _ _ (λ i h. get_d_take n xs i d h))

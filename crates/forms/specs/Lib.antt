@@ -7,7 +7,9 @@
 --     Same      it has the numbers of the step
 --     Past      which are 0 past the step's rows
 --     RowsTo    so that the tables have no rows for them
---     Filling   a loop that fills an array or a run of places of a slice
+--     Made      an array that a closure makes
+--     Answered  what `all` and `any` answer
+--     Filling   a loop or a copy that fills a run of places of a slice
 --     Products  the facts of a loop that sums six products
 pub mod Dot
 pub mod Line
@@ -17,5 +19,7 @@ pub mod Wide
 pub mod Same
 pub mod Past
 pub mod RowsTo
+pub mod Made
+pub mod Answered
 pub mod Filling
 pub mod Products

@@ -4,30 +4,17 @@ use Rattle.std.proofs.Common.{refl, sym, ◌∙◌, ap, ap₂, mul-le-mul_right,
 use Rattle.std.specs.Int.{w64}
 use Rattle.whole.specs.Fits.{fits_abs, held}
 use Rattle.model.specs.Step.{dot}
-use Rattle.forms.specs.Dot.{Vector, dot_none, dot-step, dot_small, dot_room}
+use Rattle.forms.specs.Dot.{Vector, dot-step, dot_small, dot_room}
 
 -- the factors are at most A and B, and six products fit
 module _ (p u : Vector) (A B : ℕ) (f : (j : ℕ) → nat_abs (p j) ≤ A) (g : (j : ℕ) → nat_abs (u j) ≤ B)
     (fits : T (ltb (6 * (A * B)) (2 ^ 63))) where
-  pub starts : 0 ≡ of_z w64 (dot 0 p u)
-  starts = sym (ap (of_z w64) (dot_none p u))
-
   pub reads : {s : ℕ} (k : ℕ) → k ≤ 6 → s ≡ of_z w64 (dot k p u) → to_z w64 s ≡ dot k p u
   reads k h e =
       held {w = w64} (dot k p u) e
       (fits_abs (omega (arith, dot_small p u A B f g k, mul-le-mul_right (A * B) h, ltb→lt (6 * (A * B)) (2 ^ 63) fits)))
 
-  module _ {s : ℕ} {x y : ℤ} (k : ℕ) (h : k < 6) (e : s ≡ of_z w64 (dot k p u)) (ex : x ≡ p k) (ey : y ≡ u k) where
-    pub fits_more : nat_abs (to_z w64 s) + nat_abs x * nat_abs y < 2 ^ 63
-    fits_more =
-        let r = dot_room p u A B f g k in
-        let m : (k + 1) * (A * B) ≤ 6 * (A * B) = mul-le-mul_right (A * B) (omega arith) in
-        rw (reads k (omega arith) e, ex, ey) (omega (arith, ltb→lt (6 * (A * B)) (2 ^ 63) fits))
-
-    pub goes_on : {r : ℤ} → r ≡ to_z w64 s +ℤ x *ℤ y → of_z w64 r ≡ of_z w64 (dot (k + 1) p u)
-    goes_on i = ap (of_z w64) (i ∙ ap₂ ◌+ℤ◌ (reads k (omega arith) e) (ap₂ ◌*ℤ◌ ex ey) ∙ sym (dot-step p u k))
-
-  -- the same of the number that the local stands for
+  -- one more product
   module _ {z x y : ℤ} (k : ℕ) (h : k < 6) (e : z ≡ dot k p u) (ex : x ≡ p k) (ey : y ≡ u k) where
     pub sum_fits : nat_abs z + nat_abs x * nat_abs y < 2 ^ 63
     sum_fits =

@@ -1,18 +1,15 @@
 -- A step to m coordinates has rows and forms for these only: what the tables hold past them is 0, and isn't worked out.
-use Rattle.std.specs.Prelude.{Bool, true, false, cond, List, ◌≡◌, refl, ltb, ◌*ℤ◌, length}
-use Rattle.std.proofs.Math.Path.{sym, ap₂}
+use Rattle.std.specs.Prelude.{Bool, true, false, cond, List, ◌≡◌, refl, ltb, ◌*ℤ◌}
+use Rattle.std.proofs.Math.Path.{ap₂}
 use Rattle.std.proofs.Common.{◌∙◌, arith}
 use Prim.Native.Nat.{ℕ, ◌*◌, ◌+◌, ◌/◌, ◌%◌, ◌<◌, ◌≤◌}
 use Rattle.std.proofs.Math.Decide.{dec_lt}
 use Rattle.std.proofs.Math.IntN.{ℤ, pos, ◌+ℤ◌}
-use Rattle.std.proofs.Math.Seq.{ext_get_or}
-use Rattle.whole.specs.Tab.{tab, length-tab, get_d_tab, get_d_tab_past}
-use Rattle.whole.specs.Write.{write, write-length, write-after}
+use Rattle.whole.specs.Tab.{tab, get_d_tab, get_d_tab_past}
 use Rattle.model.specs.Set.{at}
 use Rattle.model.specs.Step.{Step, dot}
 use Rattle.forms.specs.Dot.{Vector, dot_comm, dot-zero}
 use Rattle.forms.specs.Tables.{row_of, form_of}
-use Rattle.forms.specs.Filling.{first-at}
 use Rattle.forms.specs.Numbers.{both_table, line_table, column_table}
 use Rattle.forms.specs.Wide.{entry, form_entry, wide_linear, wide_quadratic, wide, StepShaped}
 use Rattle.forms.specs.Past.{linear_none, quadratic_none}
@@ -50,27 +47,6 @@ module _ (m : ℕ) where
   pub column_to : (both v : List ℤ) (t : ℕ) → RowsTo (m * 6) both → RowsTo m (column_table both v t)
   unfolding column_table
   column_to both v t h = tab_none m 36 (λ x. dot 6 (row_of v t) (row_of both x)) (λ x _ l. dot_past (m * 6) (row_of v t) both h x l)
-
-  -- a column is written where it isn't 0
-  pub column_written : (both v : List ℤ) (t : ℕ) (out : List ℤ) → RowsTo (m * 6) both → RowsTo m out → length out ≡ 36 → m ≤ 6
-      → write out 0 (λ x. dot 6 (row_of v t) (row_of both x)) (m * 6) ≡ column_table both v t
-  unfolding column_table
-  column_written both v t out hb ho long few =
-      ext_get_or (pos 0) (write out 0 f (m * 6)) (tab 36 f) (n ∙ sym (length-tab 36 f))
-      (λ x h. let b : x < 36 = omega (arith, n) in go x (dec_lt x (m * 6)) ∙ sym (get_d_tab 36 f (pos 0) x b))
-    where
-      f : ℕ → ℤ
-      f x = dot 6 (row_of v t) (row_of both x)
-
-      n : length (write out 0 f (m * 6)) ≡ 36
-      n = write-length out 0 f (m * 6) ∙ long
-
-      go : (x : ℕ) → Dec (x < m * 6) → at (write out 0 f (m * 6)) x ≡ f x
-      go x (yes p) = first-at out f (pos 0) (m * 6) x p (omega arith)
-      go x (no p) =
-          write-after out 0 f (pos 0) (m * 6) x (omega arith)
-          ∙ ho.none x (omega arith)
-          ∙ sym (dot_past (m * 6) (row_of v t) both hb x (omega arith))
 
 -- the wide step has rows and forms for the step's coordinates only
 module _ (p : Step) (shaped : StepShaped p) where

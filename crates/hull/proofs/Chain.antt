@@ -12,10 +12,9 @@ use Rattle.model.proofs.Tests.{or_false}
 use Rattle.model.proofs.Shape.{Valid}
 use Rattle.model.proofs.Held.{held, held_valid, valid_ready, hull-held}
 use Rattle.zonotope.specs.declared.PolyZonotope.{PolyZonotope}
-use Rattle.zonotope.specs.declared.Examined.TheVariants.{Accepted}
 use Rattle.zonotope.specs.Record.{view, given}
 use Rattle.zonotope.specs.Valid.{passed}
-use Rattle.zonotope.specs.Answer.{or_else}
+use Rattle.zonotope.specs.Answer.{Accepted, or_else}
 use Rattle.answers.specs.declared.Changed.{Changed}
 use Rattle.answers.specs.Answer.{answered, of_result, result-narrow}
 use Rattle.answers.specs.Order.{neither}

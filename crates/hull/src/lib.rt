@@ -6,10 +6,10 @@ ghost use Rattle.model.specs.Limits.{standard_weights};
 ghost use Rattle.model.specs.Hull.{hull};
 ghost use Rattle.model.specs.Library.{hull_refusal};
 ghost use Rattle.zonotope.specs.Record.{view, given};
-ghost use Rattle.answers.specs.Answer.{answered};
+ghost use Rattle.answers.specs.Answer.{answered, resulted};
 
 use answers::Changed;
-use zonotope::PolyZonotope;
+use zonotope::{Cause, PolyZonotope};
 
 mod refusals;
 
@@ -19,12 +19,14 @@ pub fn hull(first: PolyZonotope, second: PolyZonotope, next: u32) -> Changed
     ensures { result ≡ answered (hull_refusal next (given first) (given second)) first
         (hull standard_weights next (view first) (view second)) }
 {
-    let o = refusals::before_hulling(first, second, next);
-    if answers::is_refused(o) {
-        return Changed {
-            outcome: o,
-            set: first,
-        };
-    }
+    answers::answer(first, hulled(first, second, next))
+}
+
+// The result of the call: what refuses it before it is worked out, then the hull.
+fn hulled(first: PolyZonotope, second: PolyZonotope, next: u32) -> Result<PolyZonotope, Cause>
+    ensures { result ≡ resulted (hull_refusal next (given first) (given second))
+        (hull standard_weights next (view first) (view second)) }
+{
+    refusals::before_hulling(first, second, next)?;
     hulling::hulled(first, second, next)
 }

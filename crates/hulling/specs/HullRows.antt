@@ -1,5 +1,5 @@
 -- The rounded blend of two accepted records in rows: a set in wide form, with numbers for which nothing overflows. Finished it is the hull.
-use Rattle.std.specs.Prelude.{◌≡◌, ℕ, ◌+◌, ◌*◌, ◌^◌, ◌<◌, ◌≤◌, length, replicate, ℤ, pos}
+use Rattle.std.specs.Prelude.{◌≡◌, ℕ, ◌+◌, ◌*◌, ◌^◌, ◌<◌, ◌≤◌, length, replicate, ℤ, pos, Result}
 use Rattle.std.proofs.Common.{sym, subst, ◌∙◌, arith}
 use Rattle.std.proofs.Math.Path.{ap}
 use mathlib.Core.List.{List, map}
@@ -25,13 +25,14 @@ use Rattle.image.specs.Counted.{round-terms, round_vector}
 use Rattle.align.specs.declared.Identifiers.{Identifiers}
 use Rattle.align.specs.Sum.{Common}
 use Rattle.finish.specs.declared.Unfinished.{Unfinished}
-use Rattle.finish.specs.declared.Finished.{Finished}
-use Rattle.finish.specs.Held.{PartsUnder, held, finished_as}
+use Rattle.zonotope.specs.declared.Cause.{Cause}
+use Rattle.finish.specs.Held.{PartsUnder, held}
 use Rattle.finish.specs.Wide.{wide, wide_term, wide_vector}
 use Rattle.finish.specs.WideFinish.{Narrow}
+use Rattle.answers.specs.Answer.{settled}
 use Rattle.answers.specs.Accepted.{ready}
 use Rattle.answers.specs.Finishing.{Finishable, part, part_length, rows-part, part_small, zeros_small}
-use Rattle.answers.proofs.Settled.{finished_held}
+use Rattle.answers.proofs.Settled.{settled_held}
 use Rattle.summing.specs.Summable.{Summable}
 use Rattle.hulling.specs.Sizes.{rounded_vector_small}
 use Rattle.hulling.specs.Blended.{Blended}
@@ -147,7 +148,7 @@ module _ (a b : PolyZonotope) (h : Summable a b) (next : ℕ) (all : Identifiers
         }
 
     -- finished, it is the hull
-    pub hull_as : {r : Finished} → r ≡ finished_as (finish standard_weights 40 24 (held u rows_lent numbers_lent rows none_lent 0))
-        → r ≡ finished_as (hull standard_weights next (view a) (view b))
+    pub hull_as : {r : Result PolyZonotope Cause} → r ≡ settled (finish standard_weights 40 24 (held u rows_lent numbers_lent rows none_lent 0))
+        → r ≡ settled (hull standard_weights next (view a) (view b))
     unfolding hull
-    hull_as q = finished_held standard_weights 40 24 image image-narrow image-wide q
+    hull_as q = settled_held standard_weights 40 24 image image-narrow image-wide q

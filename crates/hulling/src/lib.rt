@@ -11,9 +11,8 @@ ghost use Rattle.zonotope.specs.Answer.{or_else};
 ghost use Rattle.rows.specs.Rows.{Small};
 ghost use Rattle.align.specs.Examined as Sum;
 ghost use Rattle.align.specs.Sum.{Common};
-ghost use Rattle.finish.specs.Held.{finished_as};
 ghost use Rattle.summing.specs.Summable.{Summable};
-ghost use Rattle.answers.specs.Answer.{answered, of_result};
+ghost use Rattle.answers.specs.Answer.{resulted, of_result, settled};
 ghost use Rattle.answers.specs.Accepted.{AcceptedRecord};
 ghost use Rattle.hulling.specs.Blended.{Blended};
 ghost use Rattle.hulling.specs.BlendRadii.{parts, blend_radii};
@@ -21,44 +20,41 @@ ghost use Rattle.hulling.specs.WithNext.{with_next};
 ghost use Rattle.hulling.specs.Hulled.{of_blended};
 
 use align::Identifiers;
-use answers::Changed;
-use finish::{Finished, Unfinished};
-use zonotope::{Examined, PolyZonotope, WideRadii};
+use finish::Unfinished;
+use zonotope::{Cause, PolyZonotope, WideRadii};
 
 mod blending;
 mod radii;
 
-// The answer for the hull of examined sets with `next` as the blending factor: 9, 10.
-pub fn hulled(first: PolyZonotope, second: PolyZonotope, next: u32) -> Changed
+// The hull of examined sets with `next` as the blending factor: 9, 10.
+pub fn hulled(first: PolyZonotope, second: PolyZonotope, next: u32) -> Result<PolyZonotope, Cause>
     requires { Summable first second }
-    ensures { result ≡ answered (or_else (of_blended (view first) (view second))
-        (of_result (hull standard_weights next (view first) (view second)))) first (hull standard_weights next (view first) (view second)) }
+    ensures { result ≡ resulted (or_else (of_blended (view first) (view second))
+        (of_result (hull standard_weights next (view first) (view second)))) (hull standard_weights next (view first) (view second)) }
 {
     let all = align::tied_identifiers(first, second);
     if too_many(all.count) {
-        return Changed {
-            outcome: Examined::Refused(9),
-            set: first,
-        };
+        return Err(Cause::TooManyFactors);
     }
-    let f = finished(first, second, next, all);
-    answers::settle(first, f)
+    finished(first, second, next, all)
 }
 
 // 9: whether these factors and the blending factor are more than a set can have.
 fn too_many(count: usize) -> bool
     ensures { result ≡ ltb max_factors (count + 1) }
 {
-    if count < zonotope::MAX_FACTORS {
-        return false;
-    }
-    true
+    zonotope::MAX_FACTORS <= count
 }
 
 // The hull over the identifiers of both sets and `next`, finished.
-fn finished(first: PolyZonotope, second: PolyZonotope, next: u32, all: Identifiers) -> Finished
+fn finished(
+    first: PolyZonotope,
+    second: PolyZonotope,
+    next: u32,
+    all: Identifiers,
+) -> Result<PolyZonotope, Cause>
     requires { Summable first second × Common (joined (view first) (view second)) all × (all.count < 12) }
-    ensures { result ≡ finished_as (hull standard_weights next (view first) (view second)) }
+    ensures { result ≡ settled (hull standard_weights next (view first) (view second)) }
 {
     let mut f = [0u8; 1932];
     let mut w = [0i64; 966];
@@ -137,10 +133,8 @@ fn independent_parts(s: PolyZonotope) -> [u64; 6]
     requires { AcceptedRecord s }
     ensures { result ≡ parts s }
 {
-    let vectors = s.vectors;
-    let own = s.radii;
-    let totals = zonotope::parts::totals(own);
-    image::remainder::spreads(&vectors, s.generators, &totals)
+    let totals = zonotope::parts::totals(s.radii);
+    image::remainder::spreads(&s.vectors, s.generators, &totals)
 }
 
 // The first twelve numbers, with `next` after `count` of them.

@@ -17,15 +17,15 @@ use Rattle.forms.specs.Numbers.{six, both_table, line_table, round_limit}
 use Rattle.forms.specs.Wide.{wide, StepShaped}
 use Rattle.raw.specs.Accepted.{InSpan}
 use Rattle.raw.specs.Unused.{generator_at, counts_in, same_row}
-use Rattle.raw.specs.Append.{wide_term, Bounded, KeptFrom, kept-after}
+use Rattle.raw.specs.Append.{wide_term, kept-after}
 use Rattle.raw.specs.Kept.{Kept, kept_to}
 use Rattle.raw.specs.Terms.{RawTerms}
 use Rattle.image.specs.KeptRows.{kept-round}
 use Rattle.image.specs.Rounding.{inexact_of, half_up, round_term, round_small, rounded-rows, rounded_small, bounded_mono}
-use Rattle.image.specs.Remainder.{Below, rounded_up, image_limit}
+use Rattle.image.specs.Remainder.{rounded_up, image_limit}
 use Rattle.image.specs.Gaining.{Gaining, gained_image}
 use Rattle.image.specs.Radii.{Carried}
-use Rattle.raw.specs.Parts.{wide_vectors, RawCentre, RawGenerators}
+use Rattle.raw.specs.Parts.{RawCentre, RawGenerators}
 use Rattle.image.specs.Padded.{same-terms, same-centre, same-remainder, same_generators}
 use Rattle.image.specs.Counted.{round-terms, round_vector, round-vectors, counted, counts-below, halves_below}
 use Rattle.image.specs.Counted.{same-inexact, none_carried, none_rounded}

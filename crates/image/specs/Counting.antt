@@ -4,10 +4,10 @@ use Rattle.std.proofs.Math.Path.{sym}
 use Rattle.std.proofs.Common.{◌∙◌, ap, zero-add, arith}
 use Rattle.whole.specs.Round.{inexact}
 use Rattle.whole.specs.Sum.{upto_by, upto_suc, upto_bound}
-use Rattle.whole.specs.Tab.{tab, tab_cong, tab_get_d, get_d_tab, length-tab}
+use Rattle.whole.specs.Tab.{tab, tab_cong, tab_get_d, get_d_tab}
 use Rattle.whole.specs.Write.{write-after}
 use Rattle.forms.specs.Tables.{row_of}
-use Rattle.forms.specs.Filling.{Filling}
+use Rattle.forms.specs.Filling.{Writing}
 use Rattle.image.specs.Rounding.{inexact_in, inexact_of, inexact_small}
 use Rattle.image.specs.Remainder.{Below, tab-below, zeros-at}
 
@@ -16,9 +16,6 @@ abbrev pub grown : List ℕ → (ℕ → ℕ) → List ℕ
 grown out f = tab 6 (λ x. get_or out x 0 + f x)
 
 module _ (out : List ℕ) (w : List ℤ) (rows : ℕ) (a : List ℕ) (grew : a ≡ grown out (inexact_in w rows)) where
-  pub grown-long : length a ≡ 6
-  grown-long = ap length grew ∙ length-tab 6 (λ x. get_or out x 0 + inexact_in w rows x)
-
   -- a row adds at most 1 to a counter
   pub grown-below : (K J : ℕ) → Below K out → K + rows ≤ J → Below J a
   grown-below K J h l =
@@ -26,9 +23,9 @@ module _ (out : List ℕ) (w : List ℤ) (rows : ℕ) (a : List ℕ) (grew : a �
       (λ x _. omega (arith, h.below x, upto_bound (λ t. inexact (row_of w t x)) 1 rows (λ t _. inexact_small (row_of w t x)))))
 
 -- ---- a row: in a loop that fills an array the places to come hold what they held
-pub filling_rest : {X : Type 0} (N : ℕ) (f : ℕ → X) (ws : List X) (d : X) (k : ℕ) (w : List X) → Filling N f ws k w
+pub writing_rest : {X : Type 0} (n : ℕ) (f : ℕ → X) (ws : List X) (d : X) (k : ℕ) (w : List X) → Writing ws 0 f n k w
     → get_or w k d ≡ get_or ws k d
-filling_rest N f ws d k w h = ap (λ (l : List _). get_or l k d) h.written ∙ write-after ws 0 f d k k (omega arith)
+writing_rest n f ws d k w h = ap (λ (l : List _). get_or l k d) h.written ∙ write-after ws 0 f d k k (omega arith)
 
 -- ---- all rows
 -- t of the rows are added

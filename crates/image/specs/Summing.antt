@@ -1,32 +1,39 @@
--- A loop that sums n numbers: what holds at each turn, at the end, and that no sum on the way is too large.
-use Rattle.std.specs.Prelude.{◌≡◌, ℕ, suc, ◌+◌, ◌*◌, ◌<◌, ◌≤◌}
+-- Sums over the numbers below n, as `(0..n).map(..).sum()` works them out.
+use Rattle.std.specs.Prelude.{◌≡◌, ℕ, zero, suc, ◌+◌, ◌<◌, map}
+use Rattle.std.specs.List.{sum, fold, range_with_len}
+use Rattle.std.specs.Iterator.{Drains}
+use Rattle.std.specs.Iterator.Adapters.{map_source, map_callee}
+use Rattle.std.specs.Iterator.Runs.{EachRunFrom}
+use Rattle.std.specs.Bool.{⊤}
+use Rattle.std.specs.declared.iter.Map.{Map}
+use Rattle.std.specs.declared.ops.Range.{Range}
 use Rattle.std.proofs.Math.Path.{refl}
-use Rattle.std.proofs.Common.{sym, ◌∙◌, ap, ap₂, mul-le-mul_right, suc-mul, arith}
-use Rattle.whole.specs.Sum.{upto_by, upto_ℕ, upto_suc, upto_bound}
+use Rattle.std.proofs.Common.{◌∙◌, ap, arith, List}
+use Rattle.std.proofs.iter.Yields.{nat_range_steps}
+use Rattle.std.proofs.lemmas.Iterator.{YieldsList, YieldsList-from_range, YieldsList-from_map, maps}
+use Rattle.std.proofs.lemmas.Iterator.Consumers.{sum_from_yields_List, fits_from_yields_list}
+use Rattle.std.proofs.lemmas.List.FromFn.{sum_by-map-range_with_len_more}
+use denote.Param.Members.{Mut, Called}
+use Rattle.whole.specs.Sum.{upto_by, upto_ℕ}
 
--- k of n numbers are in the sum
-pub record Summing (f : ℕ → ℕ) (n k sum : ℕ) : Type 0 where
-  pub inside : k ≤ n
-  pub summed : sum ≡ upto_ℕ f k
+sum_upto : (f : ℕ → ℕ) (n : ℕ) → sum (map f (range_with_len 0 n)) ≡ upto_ℕ f n
+unfolding upto_by
+sum_upto f zero = refl
+sum_upto f (suc n) =
+    let e : suc n ≡ n + 1 = omega arith in
+    ap (λ (k : ℕ). sum (map f (range_with_len 0 k))) e
+    ∙ sum_by-map-range_with_len_more (λ x. x) f 0 n n (omega arith)
+    ∙ ap (◌+ f n) (sum_upto f n)
 
-module _ (f : ℕ → ℕ) (n : ℕ) where
-  pub summing_begins : Summing f n 0 0
-  unfolding upto_by
-  summing_begins = record { inside = omega arith; summed = refl }
+-- the numbers that a closure gives, which is h
+module _ {F : Type 0} {g : Mut F (ℕ × Unit {0}) ℕ} {s : Map (Range ℕ) F} {f : F} (h : ℕ → ℕ) (n : ℕ)
+    (source : map_source s ≡ record { start = 0; end = n }) (callee : map_callee s ≡ f)
+    (gives : (x r : ℕ) (q : F) → Called g f (x, tt) r q → (q ≡ f) × (r ≡ h x)) where
+  numbers : YieldsList (maps nat_range_steps g) (λ r. r) s (map h (range_with_len 0 n))
+  numbers = YieldsList-from_map g h (YieldsList-from_range 0 n n source (omega arith)) callee gives
 
-  pub summing_again : (k sum y : ℕ) → Summing f n k sum → k < n → y ≡ f k → Summing f n (k + 1) (sum + y)
-  summing_again k sum y h l e = record { inside = omega arith; summed = ap₂ ◌+◌ h.summed e ∙ sym (upto_suc 0 ◌+◌ f k) }
+  pub summed : (r : ℕ) → (xs : List ℕ) × (⊤ → Drains (maps nat_range_steps g) s xs) × (r ≡ fold (λ a x. a + x) 0 xs) → r ≡ upto_ℕ h n
+  summed r ran = sum_from_yields_List s r ran numbers ∙ sum_upto h n
 
-  pub summing_ends : (k sum : ℕ) → Summing f n k sum → n ≤ k → sum ≡ upto_ℕ f n
-  summing_ends k sum h l =
-      let i = h.inside in
-      let e : k ≡ n = omega arith in
-      h.summed ∙ ap (upto_ℕ f) e
-
-  -- no sum on the way is larger than n·B
-  pub summing_fits : (B k sum y : ℕ) → ((i : ℕ) → i < n → f i ≤ B) → Summing f n k sum → k < n → y ≡ f k → sum + y ≤ n * B
-  summing_fits B k sum y small h l e =
-      let s : sum ≤ k * B = rw h.summed (upto_bound f B k (λ i m. small i (omega arith))) in
-      let b : y ≤ B = rw e (small k l) in
-      let m : suc k * B ≤ n * B = mul-le-mul_right B l in
-      omega (arith, suc-mul k B)
+  pub sum_fits : (top : ℕ) → upto_ℕ h n < top → EachRunFrom (maps nat_range_steps g) s (λ p. fold (λ a x. a + x) 0 p.items < top)
+  sum_fits top l = fits_from_yields_list s top numbers (rw (sum_upto h n) l)

@@ -54,7 +54,7 @@ pub fn of_step(
 fn of_wide_step(
     m: usize,
     c: &[i32; 6],
-    a: &[i32; 36],
+    a: &[i64; 36],
     q: &[i32; 216],
     s: PolyZonotope,
     gains: &[u64; 6],

@@ -9,6 +9,8 @@ ghost use Rattle.image.specs.Rounding.{inexact_in, inexact_of, half_up};
 ghost use Rattle.image.specs.Remainder.{Below};
 ghost use Rattle.image.specs.Counting.{grown};
 
+use core::array;
+
 // The inexact roundings at each coordinate of the centre, the terms' rows and the generators.
 pub fn counts(
     w: &[i64],
@@ -31,18 +33,7 @@ pub fn counts(
 pub fn halves(counts: &[u64; 6]) -> [u64; 6]
     ensures { result ≡ tab 6 (λ i. half_up (get_or counts.now i 0)) }
 {
-    let mut halved = [0u64; 6];
-    for x in 0..6 {
-        let y = half_up(counts[x]);
-        halved[x] = y;
-    }
-    halved
-}
-
-fn half_up(count: u64) -> u64
-    ensures { result ≡ half_up count }
-{
-    count / 2 + count % 2
+    array::from_fn(|i| counts[i].div_ceil(2))
 }
 
 // The first n numbers, rounded in place.
@@ -50,16 +41,14 @@ pub fn round_first(w: &mut [i64], n: usize)
     requires { n ≤ length w.old }
     ensures { w.new ≡ write w.old 0 (λ (x : ℕ). round (at w.old x)) n }
 {
-    for x in 0..n {
-        let v = w[x];
-        let y = whole::round_scale(v);
-        w[x] = y;
+    for v in w[..n].iter_mut() {
+        *v = whole::round_scale(*v);
     }
 }
 
 // The inexact roundings of the first rows, added coordinate by coordinate.
 fn add_rows(out: &mut [u64; 6], w: &[i64], rows: usize)
-    requires { (rows ≤ 860) × (rows * 6 ≤ length w.now) × (length out.old ≡ 6) × Below 1000 out.old }
+    requires { (rows ≤ 860) × (rows * 6 ≤ length w.now) × Below 1000 out.old }
     ensures { out.new ≡ grown out.old (inexact_in w.now rows) }
 {
     for t in 0..rows {
@@ -69,11 +58,10 @@ fn add_rows(out: &mut [u64; 6], w: &[i64], rows: usize)
 
 // Those of row t.
 fn add_row(out: &mut [u64; 6], w: &[i64], t: usize)
-    requires { (t < 860) × (t * 6 + 6 ≤ length w.now) × (length out.old ≡ 6) × Below 2000 out.old }
+    requires { (t < 860) × (t * 6 + 6 ≤ length w.now) × Below 2000 out.old }
     ensures { out.new ≡ grown out.old (λ (x : ℕ). inexact (row_of w.now t x)) }
 {
-    for x in 0..6 {
-        let v = w[t * 6 + x];
-        out[x] += whole::count_inexact(v);
+    for (i, count) in out.iter_mut().enumerate() {
+        *count += whole::count_inexact(w[t * 6 + i]);
     }
 }

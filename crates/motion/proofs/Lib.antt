@@ -1,9 +1,7 @@
 -- Laws that the proofs cite.
 --     Closed    what is printed where no whole field is left
---     Flowing   a turn of the program
---     Shifted   bytes moved to the start of a buffer
+--     Flowing   how the program starts and ends
 --     Promise   the program keeps its promise
 pub mod Closed
 pub mod Flowing
-pub mod Shifted
 pub mod Promise

@@ -1,6 +1,6 @@
 -- The line of an answer, which is that of the definitions where the answer is the record of theirs.
-use Rattle.std.specs.Prelude.{◌≡◌, refl, List, [], ◌∷◌, true, false, ℕ, ◌≤◌, length, ℤ, pos}
-use Rattle.std.proofs.Common.{sym, ap₂, ◌∙◌, subst, arith}
+use Rattle.std.specs.Prelude.{◌≡◌, refl, List, [], ◌∷◌, true, false, ℕ, ◌≤◌, length, ℤ, pos, ⊤}
+use Rattle.std.proofs.Common.{sym, ap, ap₂, ◌∙◌, subst, arith}
 use Rattle.whole.specs.Tab.{tab, tab_cong, get_d_tab, tab_get_d}
 use Rattle.model.specs.Set.{at}
 use Rattle.model.specs.Field as Outcomes
@@ -11,6 +11,7 @@ use Rattle.model.specs.Text.{box_line, verdict_line, refusal_line, outcome_line,
 use Rattle.text.specs.Appended.{Appended, none_put, named}
 use Rattle.text.specs.Pieces.{firsts}
 use Rattle.text.specs.Lines.{longest_line}
+use Rattle.zonotope.specs.Answer.{number_of, cause_of}
 use Rattle.states.specs.Answer.{outcome_of, box_of, parts, answer_of}
 use Rattle.states.specs.declared.Outcome.{Outcome}
 use Rattle.states.specs.declared.Outcome.TheVariants.{Inside, Safe, Unknown, Refused, Skipped, Unfit}
@@ -21,7 +22,7 @@ unfoldable pub case_line : ℕ → Answer → Outcome → List ℕ
 case_line tag a Inside = box_line a.field tag (firsts a.sides a.low) (firsts a.sides a.high)
 case_line tag a Safe = verdict_line a.field tag true
 case_line tag a Unknown = verdict_line a.field tag false
-case_line tag a (Refused r) = refusal_line a.field r.number r.place
+case_line tag a (Refused r) = refusal_line a.field (number_of r.cause) r.place
 case_line tag a Skipped = []
 case_line tag a (Unfit n) = []
 
@@ -29,10 +30,21 @@ case_line tag a (Unfit n) = []
 abbrev pub answer_line : ℕ → Answer → List ℕ
 answer_line tag a = case_line tag a a.outcome
 
+-- a refusal's number is that of a cause
+abbrev pub Numbered : ℕ → Type 0
+Numbered n = number_of (cause_of n) ≡ n
+
+abbrev pub HasCause : Outcomes.Outcome → Type 0
+HasCause (inside b) = ⊤
+HasCause (verdict b) = ⊤
+HasCause (refused n place) = Numbered n
+HasCause skipped = ⊤
+
 -- a box has as many low as high ends, and at most six
 pub record Brief (o : Outcomes.Outcome) : Type 0 where
   pub few : length (box_of o).lows ≤ 6
   pub same : length (box_of o).highs ≡ length (box_of o).lows
+  pub numbered : HasCause o
 
 -- ---- laws
 -- a line that was written by the case of an answer
@@ -59,7 +71,7 @@ record_line tag a bytes h = go a.outcome h
     go (inside b) h = ap₂ (box_line a.field tag) (firsts_of-six _ b.lows refl h.few) (firsts_of-six _ b.highs h.same h.few)
     go (verdict true) h = refl
     go (verdict false) h = refl
-    go (refused n place) h = refl
+    go (refused n place) h = ap (λ m. refusal_line a.field m place) h.numbered
     go skipped h = refl
 
 -- a field without bytes has tag 0

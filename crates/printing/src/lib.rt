@@ -13,10 +13,10 @@ use states::{Answer, Outcome};
 pub fn tag_of(field: &[u8]) -> u8
     ensures { result ≡ Run·tag field.now }
 {
-    if field.len() == 0 {
-        return 0;
+    match field.first() {
+        Some(tag) => *tag,
+        None => 0,
     }
-    field[0]
 }
 
 // The line of an answer to a field with this tag, from the place `at` on, where there is room for the longest line. The answer is the
@@ -25,17 +25,11 @@ pub fn answer_line(out: &mut [u8], at: usize, tag: u8, a: Answer) -> usize
     requires { (a.sides ≤ 6) × (at + longest_line ≤ length out.old) }
     ensures { Appended longest_line out.old out.new at result (answer_line tag a) }
 {
-    let o = a.outcome;
-    match o {
-        Outcome::Inside => {
-            let low = a.low;
-            let high = a.high;
-            text::box_line(out, at, a.field, tag, a.sides, &low, &high)
-        }
+    match a.outcome {
+        Outcome::Inside => text::box_line(out, at, a.field, tag, a.sides, &a.low, &a.high),
         Outcome::Safe => text::verdict_line(out, at, a.field, tag, true),
         Outcome::Unknown => text::verdict_line(out, at, a.field, tag, false),
-        Outcome::Refused(r) => text::refusal_line(out, at, a.field, r.number, r.place),
-        Outcome::Skipped => at,
-        Outcome::Unfit(_) => at,
+        Outcome::Refused(r) => text::refusal_line(out, at, a.field, r.cause.number(), r.place),
+        Outcome::Skipped | Outcome::Unfit(_) => at,
     }
 }

@@ -4,7 +4,7 @@ use Prim.Native.Nat.{ℕ}
 use Rattle.model.specs.Limits.{standard_weights}
 use Rattle.model.specs.Hull.{hull}
 use Rattle.model.specs.Library.{hull_refusal}
-use Rattle.zonotope.specs.declared.Examined.TheVariants.{Accepted}
+use Rattle.zonotope.specs.Answer.{Accepted}
 use Rattle.zonotope.specs.declared.PolyZonotope.{PolyZonotope}
 use Rattle.zonotope.specs.Record.{given, view}
 use Rattle.answers.specs.declared.Changed.{Changed}

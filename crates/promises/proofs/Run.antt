@@ -5,6 +5,8 @@ use mathlib.Core.Bool.{true, false}
 use Prim.Native.Nat.{ℕ}
 use Rattle.model.specs.Run.{fields, begin}
 use Rattle.model.specs.Motion.{Picks, Allowed, beginning as atBeginning}
+use Rattle.zonotope.specs.declared.Cause.{Cause}
+use Rattle.zonotope.specs.declared.Cause.TheVariants.{WorkTooShort}
 use Rattle.states.specs.declared.Outcome.TheVariants.{Unfit}
 use Rattle.states.specs.State.{beginning}
 use Rattle.run.specs.Whole.{ran_of}
@@ -29,5 +31,5 @@ run_enclosed = RunEnclosed.run_enclosed
 -- After any calls from `begin()` the next one is answered `Unfit` exactly where its slices are too short, with 13.
 pub never_unfit : (calls : List Call) (c : Call)
     → let o = (called (state_after beginning calls) c).answer.outcome in
-    (short c ≡ false → (n : ℕ) → ¬ (o ≡ Unfit n)) × (short c ≡ true → o ≡ Unfit 13)
+    (short c ≡ false → (d : Cause) → ¬ (o ≡ Unfit d)) × (short c ≡ true → o ≡ Unfit WorkTooShort)
 never_unfit = Reached.never_unfit

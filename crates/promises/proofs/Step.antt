@@ -6,7 +6,7 @@ use lib.IntN.{ℤ}
 use Rattle.model.specs.Limits.{standard_weights}
 use Rattle.model.specs.Step.{Step, step}
 use Rattle.model.specs.Ranged.{Widths, ranged_step}
-use Rattle.zonotope.specs.declared.Examined.TheVariants.{Accepted}
+use Rattle.zonotope.specs.Answer.{Accepted}
 use Rattle.zonotope.specs.declared.PolyZonotope.{PolyZonotope}
 use Rattle.zonotope.specs.Record.{given, view}
 use Rattle.answers.specs.declared.Changed.{Changed}

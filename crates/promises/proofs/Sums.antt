@@ -5,7 +5,7 @@ use Prim.Native.Nat.{ℕ}
 use Rattle.model.specs.Limits.{standard_weights}
 use Rattle.model.specs.Operations.{disturb, reduce, tied_sum, independent_sum}
 use Rattle.model.specs.Library.{disturb_refusal, reduce_refusal, tied_refusal, independent_refusal}
-use Rattle.zonotope.specs.declared.Examined.TheVariants.{Accepted}
+use Rattle.zonotope.specs.Answer.{Accepted}
 use Rattle.zonotope.specs.declared.PolyZonotope.{PolyZonotope}
 use Rattle.zonotope.specs.Record.{given, view}
 use Rattle.answers.specs.declared.Changed.{Changed}

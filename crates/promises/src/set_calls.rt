@@ -9,7 +9,7 @@ ghost use Rattle.model.specs.Ranged.{ranged_step};
 ghost use Rattle.model.specs.Library.{examine, disturb_refusal, reduce_refusal, tied_refusal, independent_refusal, hull_refusal};
 ghost use Rattle.zonotope.specs.Record.{view, pack, given};
 ghost use Rattle.zonotope.specs.Shape.{Sized};
-ghost use Rattle.zonotope.specs.Answer.{examined};
+ghost use Rattle.zonotope.specs.Answer.{Accepted, examined};
 ghost use Rattle.bounds.specs.Answer.{bounds_of, verdict_of};
 ghost use Rattle.answers.specs.Answer.{answered};
 ghost use Rattle.image.specs.StepAccepted.{step_of};
@@ -18,9 +18,8 @@ ghost use Rattle.stepping.specs.Work.{work_numbers, work_exponents};
 ghost use Rattle.step.specs.Answer.{refusal_of, ranged_refusal_of, left_in};
 
 use answers::Changed;
-use bounds::Bounds;
-use verdicts::Verdict;
-use zonotope::{Examined, PolyZonotope};
+use verdicts::{Ends, Verdict};
+use zonotope::{Cause, PolyZonotope};
 
 pub fn empty() -> PolyZonotope
     ensures { result ≡ pack no_set }
@@ -28,20 +27,26 @@ pub fn empty() -> PolyZonotope
     zonotope::empty()
 }
 
-pub fn examine(s: PolyZonotope) -> Examined
+pub fn examine(s: PolyZonotope) -> Result<(), Cause>
     ensures value { result ≡ examined (examine (given s)) }
-    ensures sized { result ≡ Examined.Accepted → Sized s }
+    ensures sized { result ≡ Accepted → Sized s }
 {
     zonotope::examine(s)
 }
 
-pub fn box_of(s: PolyZonotope) -> Bounds
+pub fn box_of(s: PolyZonotope) -> Result<Ends, Cause>
     ensures { result ≡ bounds_of (given s) }
 {
     bounds::box_of(s)
 }
 
-pub fn check(s: PolyZonotope, n: usize, count: usize, normals: &[i32], bounds: &[i64]) -> Verdict
+pub fn check(
+    s: PolyZonotope,
+    n: usize,
+    count: usize,
+    normals: &[i32],
+    bounds: &[i64],
+) -> Result<Verdict, Cause>
     ensures { result ≡ verdict_of n count normals.now bounds.now (given s) }
 {
     bounds::check(s, n, count, normals, bounds)

@@ -5,10 +5,10 @@ use Rattle.std.proofs.Common.{sym, ◌∙◌, ap, arith, eq-eqb, ne_eqb}
 use Rattle.std.proofs.Math.IntN.{ℤ}
 use Rattle.whole.specs.Half.{half, half-parts, half_of-zero}
 use Rattle.whole.specs.Tab.{tab}
-use Rattle.whole.specs.Write.{write, write-length, write_cong, write-at, write_over}
+use Rattle.whole.specs.Write.{write, write-length}
 use Rattle.rows.specs.Rows.{rows_of, Small}
 use Rattle.model.specs.Pairs.{pair_codes}
-use Rattle.model.specs.Set.{Term, at}
+use Rattle.model.specs.Set.{Term}
 use Rattle.model.specs.Step.{dot}
 use Rattle.rational.specs.Sum.{All, none, more}
 use Rattle.forms.specs.Tables.{row_of}
@@ -47,21 +47,6 @@ module _ (column coefficients : List ℤ) (s t i : ℕ) where
   pub number-pair : (s ≡ t → ⊥) → pair_number column coefficients s t i ≡ product column coefficients t i
   unfolding pair_number
   number-pair e = rw (ne_eqb s t e)
-
--- the products are written, and then halved for a term with itself
-module _ (column coefficients w w₁ : List ℤ) (r s t : ℕ) (e : w₁ ≡ write w (r * 6) (product column coefficients t) 6) where
-  pub pair-written : (s ≡ t → ⊥) → w₁ ≡ write w (r * 6) (pair_number column coefficients s t) 6
-  pair-written d = e ∙ write_cong w (r * 6) _ _ 6 (λ i _. sym (number-pair column coefficients s t i d))
-
-  pub square_written : (w₂ : List ℤ) → s ≡ t → r * 6 + 6 ≤ length w → w₂ ≡ write w₁ (r * 6) (λ i. half (at w₁ (r * 6 + i))) 6
-      → w₂ ≡ write w (r * 6) (pair_number column coefficients s t) 6
-  square_written w₂ d l f =
-      f
-      ∙ write_cong w₁ (r * 6) _ (pair_number column coefficients s t) 6
-      (λ i h. ap half (ap (λ (v : List ℤ). at v (r * 6 + i)) e ∙ write-at w (r * 6) (product column coefficients t) (pos 0) 6 i h l)
-      ∙ sym (number_square column coefficients s t i d))
-      ∙ ap (λ (v : List ℤ). write v (r * 6) (pair_number column coefficients s t) 6) e
-      ∙ write_over w (r * 6) (product column coefficients t) (pair_number column coefficients s t) (pos 0) 6 l
 
 pub half_small : (z : ℤ) (K : ℕ) → nat_abs z ≤ K → nat_abs (half z) ≤ K
 half_small z K h = omega (arith, half-parts z)

@@ -56,10 +56,3 @@ pub fn pairs() -> [u16; 820]
 {
     PAIRS
 }
-
-// A place of the table at the width of an index.
-pub fn place(x: u16) -> usize
-    ensures { result ≡ x }
-{
-    x as usize
-}

@@ -1,10 +1,9 @@
 // The raw terms of the image in rows of the work slices: own terms first, then the pairs of terms.
-ghost use Rattle.std.specs.Prelude.{◌≡◌, ℕ, ◌+◌, ◌*◌, ◌/◌, ◌%◌, ◌≤◌, ◌<◌, length, get_or};
-ghost use Rattle.whole.specs.Half.{half};
+ghost use Rattle.std.specs.Prelude.{◌≡◌, ℕ, ◌+◌, ◌*◌, ◌/◌, ◌%◌, ◌≤◌, ◌<◌, length};
+ghost use Rattle.whole.specs.Tab.{tab};
 ghost use Rattle.whole.specs.Write.{write};
 ghost use Rattle.rows.specs.Rows.{Small};
 ghost use Rattle.model.specs.Pairs.{pair_codes};
-ghost use Rattle.model.specs.Set.{at};
 ghost use Rattle.model.specs.Step.{dot};
 ghost use Rattle.forms.specs.Tables.{row_of};
 ghost use Rattle.forms.specs.Numbers.{both_limit, table_limit, raw_limit, column_table};
@@ -16,6 +15,7 @@ ghost use Rattle.raw.specs.PairRows.{pair_number, pair_exponent, Added};
 ghost use Rattle.raw.specs.Terms.{RawTerms};
 
 use crate::pairs;
+use core::array;
 use zonotope::PolyZonotope;
 
 // The numbers of the first rows of v, each a dot product with the line of its coordinate. Only the first m coordinates have lines.
@@ -26,7 +26,8 @@ pub fn linear_numbers(w: &mut [i64], lines: &[i64; 36], v: &[i32], rows: usize, 
         ≡ write w.old 0 (λ (x : ℕ). dot 6 (row_of v.now (x / 6)) (row_of lines.now (x % 6))) (rows * 6) }
 {
     for t in 0..rows {
-        row_numbers(w, t, lines, v, t, m);
+        let row = products(lines, v, t, m);
+        w[t * 6..t * 6 + 6].copy_from_slice(&row);
     }
 }
 
@@ -48,92 +49,49 @@ pub fn all_rows(
     let h = s.terms;
     let table = pairs::pairs();
     linear_numbers(w, lines, &coefficients, h, m);
-    copy_exponents(e, &exponents, h * 12);
+    e[..h * 12].copy_from_slice(&exponents[..h * 12]);
     pair_rows(w, e, &table, both, &coefficients, &exponents, h, m)
 }
 
-// The first n exponents.
-fn copy_exponents(e: &mut [u8], exponents: &[u8; 480], n: usize)
-    requires { (n ≤ 480) × (n ≤ length e.old) }
-    ensures { e.new ≡ write e.old 0 (λ (x : ℕ). get_or exponents.now x 0) n }
-{
-    for x in 0..n {
-        e[x] = exponents[x];
-    }
-}
-
-// In row r of w the dot products of row t of v with the rows of a table, of which only the first m aren't 0.
-fn row_numbers(w: &mut [i64], r: usize, table: &[i64], v: &[i32], t: usize, m: usize)
-    requires { (r < 860) × (r * 6 + 6 ≤ length w.old) × (length table.now ≡ 36) × (t < 40) × (t * 6 + 6 ≤ length v.now)
+// The dot products of row t of v with the rows of a table, of which only the first m aren't 0.
+fn products(table: &[i64; 36], v: &[i32], t: usize, m: usize) -> [i64; 6]
+    requires { (t < 40) × (t * 6 + 6 ≤ length v.now)
         × Small table_limit table.now × Small 1048576 v.now × RowsTo m table.now }
-    ensures { w.new
-        ≡ write w.old (r * 6) (λ (i : ℕ). dot 6 (row_of v.now t) (row_of table.now i)) 6 }
+    ensures { result ≡ tab 6 (λ (i : ℕ). dot 6 (row_of v.now t) (row_of table.now i)) }
 {
-    for i in 0..6 {
-        let y = number(table, i, v, t, m);
-        w[r * 6 + i] = y;
-    }
+    array::from_fn(|i| forms::dot_rows_to(v, t, table, i, m))
 }
 
-// The dot product of row t of v with row i of a table.
-fn number(table: &[i64], i: usize, v: &[i32], t: usize, m: usize) -> i64
-    requires { (i < 6) × (length table.now ≡ 36) × (t < 40) × (t * 6 + 6 ≤ length v.now)
-        × Small table_limit table.now × Small 1048576 v.now × RowsTo m table.now }
-    ensures { result ≡ dot 6 (row_of v.now t) (row_of table.now i) }
-{
-    if i < m {
-        forms::dot_rows(v, t, table, i)
-    } else {
-        0
-    }
-}
-
-// Half of each number of row r.
-fn halve_row(w: &mut [i64], r: usize)
-    requires { (r < 860) × (r * 6 + 6 ≤ length w.old) }
-    ensures { w.new ≡ write w.old (r * 6) (λ (i : ℕ). half (at w.old (r * 6 + i))) 6 }
-{
-    for i in 0..6 {
-        let x = w[r * 6 + i];
-        w[r * 6 + i] = whole::half(x);
-    }
-}
-
-// In row r the numbers of terms s and t, from the column of s, halved for a term with itself.
+// The numbers of terms s and t, from the column of s, halved for a term with itself.
 fn pair_numbers(
-    w: &mut [i64],
-    r: usize,
-    column: &[i64],
+    column: &[i64; 36],
     coefficients: &[i32; 240],
     s: usize,
     t: usize,
     m: usize,
-)
-    requires { (r < 860) × (r * 6 + 6 ≤ length w.old) × (length column.now ≡ 36) × (t < 40)
-        × Small table_limit column.now × Small 1048576 coefficients.now × RowsTo m column.now }
-    ensures { w.new
-        ≡ write w.old (r * 6) (pair_number column.now coefficients.now s t) 6 }
+) -> [i64; 6]
+    requires { (t < 40) × Small table_limit column.now × Small 1048576 coefficients.now × RowsTo m column.now }
+    ensures { result ≡ tab 6 (pair_number column.now coefficients.now s t) }
 {
-    row_numbers(w, r, column, coefficients, t, m);
-    if s != t {
-        return;
+    let numbers = products(column, coefficients, t, m);
+    if s == t {
+        array::from_fn(|i| whole::half(numbers[i]))
+    } else {
+        numbers
     }
-    halve_row(w, r);
 }
 
-// The exponents of terms s and t, added, in row r.
-fn pair_exponents(e: &mut [u8], r: usize, exponents: &[u8; 480], s: usize, t: usize)
-    requires { (r < 860) × (r * 12 + 12 ≤ length e.old) × (s < 40) × (t < 40) × Low exponents.now }
-    ensures { e.new ≡ write e.old (r * 12) (pair_exponent exponents.now s t) 12 }
+// The exponents of terms s and t, added.
+fn pair_exponents(exponents: &[u8; 480], s: usize, t: usize) -> [u8; 12]
+    requires { (s < 40) × (t < 40) × Low exponents.now }
+    ensures { result ≡ tab 12 (pair_exponent exponents.now s t) }
 {
-    for k in 0..12 {
-        e[r * 12 + k] = exponents[s * 12 + k] + exponents[t * 12 + k];
-    }
+    array::from_fn(|k| exponents[s * 12 + k] + exponents[t * 12 + k])
 }
 
 // The column of term s, where that of term `last` stands: the pairs of a term follow one another and share it.
 fn column_of(
-    column: &mut [i64],
+    column: &mut [i64; 36],
     last: usize,
     both: &[i64; 216],
     coefficients: &[i32; 240],
@@ -144,10 +102,9 @@ fn column_of(
         × Small both_limit both.now × Small 1048576 coefficients.now × RowsTo (m * 6) both.now }
     ensures { column.new ≡ column_table both.now coefficients.now s }
 {
-    if s == last {
-        return;
+    if s != last {
+        *column = forms::column(both, coefficients, s, m);
     }
-    forms::column(column, both, coefficients, s, m);
 }
 
 // The rows of the pairs of the first h terms, after h rows; how many rows there are then. Where there are no forms all pairs are 0, and none
@@ -171,20 +128,21 @@ fn pair_rows(
     if forms::no_forms(both) {
         return h;
     }
-    let mut column = [0i64; 36];
-    forms::column(&mut column, both, coefficients, 0, m);
+    let mut column = forms::column(both, coefficients, 0, m);
     let mut last = 0;
     let mut r = h;
     let mut k = 0;
     while k < 820 {
-        let c = pairs::place(table[k]);
-        let first = c / 40;
-        let second = c % 40;
+        let code = usize::from(table[k]);
+        let first = code / 40;
+        let second = code % 40;
         if second < h {
             column_of(&mut column, last, both, coefficients, first, m);
             last = first;
-            pair_numbers(w, r, &column, coefficients, first, second, m);
-            pair_exponents(e, r, exponents, first, second);
+            let numbers = pair_numbers(&column, coefficients, first, second, m);
+            w[r * 6..r * 6 + 6].copy_from_slice(&numbers);
+            let added = pair_exponents(exponents, first, second);
+            e[r * 12..r * 12 + 12].copy_from_slice(&added);
             r += 1;
             k += 1;
         } else {

@@ -131,9 +131,9 @@ module _ (f : Flow) (B : List ℕ) (a : Along f) (on : f.ended ≡ false) (good 
     stopped = record {
       held = f.held;
       allowed = f.allowed - 1;
-      ended = false;
+      ended = f.ended;
       unread = true;
-      failed = false;
+      failed = f.failed;
       input = r.input;
       output = f.output;
     }
@@ -145,9 +145,8 @@ module _ (f : Flow) (B : List ℕ) (a : Along f) (on : f.ended ≡ false) (good 
         reads = a.reads ++ (this ∷ []);
         writes = a.writes;
         made = omega (arith, length-append a.reads (this ∷ []), a.made);
-        told = now_told (ap (λ b. eqb r.count 0 && not b) bad ∙ and-false (eqb r.count 0)) bad went;
-        rewrites = follows_read a.rewrites _ on this (λ more.
-            ap (λ x. cond x [] (remaining f.held (came ++ more))) on ∙ ap (λ n. remaining f.held (take n B ++ more)) (filled.none bad));
+        told = now_told (ap (λ b. eqb r.count 0 && not b) bad ∙ and-false (eqb r.count 0) ∙ sym on) bad refl;
+        rewrites = follows_read a.rewrites _ on this (λ more. ap (λ n. cond f.ended [] (remaining f.held (take n B ++ more))) (filled.none bad));
       };
       fewer = omega arith;
     }
@@ -202,8 +201,8 @@ module _ (f : Flow) (B : List ℕ) (a : Along f) (on : f.ended ≡ false) (good 
 abbrev pub is_over : Flow → Bool
 is_over f = ((f.ended || f.unread) || f.failed) || eqb f.allowed 0
 
-pub starts : {f : Flow} → f ≡ starting_flow → Along f × (false ≡ is_over f)
-starts e = subst (λ (f : Flow). Along f × (false ≡ is_over f)) (sym e) (along-begins, refl)
+pub starts : {f : Flow} → f ≡ starting_flow → Along f
+starts e = subst Along (sym e) along-begins
 
 module _ (f : Flow) (off : is_over f ≡ false) where
   pub not-ended : f.ended ≡ false

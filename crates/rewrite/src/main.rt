@@ -52,13 +52,11 @@ fn main(rt: HostRuntime) {
 fn run(rt: &HostRuntime) -> Flow
     ensures { Streamed result }
 {
-    let mut buf = room();
-    let mut out = page();
+    let mut buf = [0; ROOM];
+    let mut out = [0; PAGE];
     let mut flow = begin(rt);
-    let mut over = false;
-    while !over {
+    while !(flow.ended | flow.unread | flow.failed | (flow.allowed == 0)) {
         flow = turn(flow, &mut buf, &mut out);
-        over = flow.ended | flow.unread | flow.failed | (flow.allowed == 0);
     }
     flow
 }
@@ -66,17 +64,14 @@ fn run(rt: &HostRuntime) -> Flow
 fn begin(rt: &HostRuntime) -> Flow
     ensures { result ≡ starting_flow }
 {
-    let held = rewriting::begin();
-    let input = console::nothing_read(rt);
-    let output = console::nothing_written(rt);
     Flow {
-        held,
+        held: rewriting::begin(),
         allowed: u64::MAX,
         ended: false,
         unread: false,
         failed: false,
-        input,
-        output,
+        input: console::nothing_read(rt),
+        output: console::nothing_written(rt),
     }
 }
 
@@ -86,36 +81,26 @@ fn turn(f: Flow, buf: &mut [u8], out: &mut [u8]) -> Flow
         × (f.unread ≡ false) × (f.failed ≡ false) }
     ensures { TurnMade f result }
 {
-    let before = f.input;
-    let got = console::fill(before, buf);
-    let count = got.count;
-    let input = got.input;
-    let held = f.held;
-    let sent = f.output;
+    let got = console::fill(f.input, buf);
+    let allowed = f.allowed - 1;
     if got.failed {
         return Flow {
-            held,
-            allowed: f.allowed - 1,
-            ended: false,
+            allowed,
             unread: true,
-            failed: false,
-            input,
-            output: sent,
+            input: got.input,
+            ..f
         };
     }
-    let given = pass(held, &buf[..count], out);
-    let next = given.held;
-    let written = given.written;
-    let emitted = console::emit(sent, &out[..written]);
-    let output = emitted.output;
+    let given = pass(f.held, &buf[..got.count], out);
+    let emitted = console::emit(f.output, &out[..given.written]);
     Flow {
-        held: next,
-        allowed: f.allowed - 1,
-        ended: count == 0,
+        held: given.held,
+        allowed,
+        ended: got.count == 0,
         unread: false,
         failed: !emitted.whole,
-        input,
-        output,
+        input: got.input,
+        output: emitted.output,
     }
 }
 
@@ -124,22 +109,9 @@ fn pass(h: Held, came: &[u8], out: &mut [u8]) -> Given
     requires { Reached h × (length came.now + 28 ≤ length out.old) }
     ensures { Done (length came.now + 28) (passed h came.now) out.old out.new 0 result }
 {
-    if came.len() == 0 {
+    if came.is_empty() {
         let written = rewriting::close(h, out);
         return Given { held: h, written };
     }
     rewriting::give(h, came, out)
-}
-
-// Arrays of zeros. Only the lengths are told, so that no proof looks at the zeros.
-fn room() -> [u8; 65536]
-    ensures { length result ≡ 65536 }
-{
-    [0; ROOM]
-}
-
-fn page() -> [u8; 65564]
-    ensures { length result ≡ 65564 }
-{
-    [0; PAGE]
 }

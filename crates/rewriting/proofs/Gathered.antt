@@ -8,8 +8,9 @@ use native.Mathlib.Decide.{dec_lt}
 use native.Mathlib.Omega.{arith}
 use borrow.Author.Tests.{lt-ltb, le-ltb}
 use lib.Dec.{ltb}
-use lib.ListN.{length, get_or, take, set, length-append}
-use lib.Seq.{length-take-le, take_all, take-suc}
+use lib.ListN.{length, take, drop, length-append, length-set}
+use Rattle.std.proofs.Common.{take-append-drop}
+use lib.Seq.{length-take-le, take-suc-set, drop-set-lt}
 use Rattle.model.specs.Run.{field_length}
 use Rattle.model.proofs.Cutting.{header_kept}
 use Rattle.model.proofs.Rewritten.{may_be_empty, may_kept}
@@ -56,11 +57,6 @@ module _ (f : List ℕ) where
             ∙ lt-ltb (length (f ++ bs)) (field_length (f ++ bs)) within
 
 -- ---- held with bytes more
-pub with-more : (h : Held) (bs : List ℕ) (b : ℕ) → with_bytes h (bs ++ (b ∷ [])) ≡ with_byte (with_bytes h bs) b
-unfolding with_bytes
-with-more h [] b = refl
-with-more h (x ∷ bs) b = with-more (with_byte h x) bs b
-
 pub with_count : (h : Held) (bs : List ℕ) → (with_bytes h bs).count ≡ h.count + length bs
 unfolding with_bytes
 with_count h [] = omega arith
@@ -71,31 +67,28 @@ unfolding with_bytes
 with-left h [] = refl
 with-left h (b ∷ bs) = with-left (with_byte h b) bs
 
--- the loop that holds them one after the other
-module _ (h : Held) (more : List ℕ) where
-  abbrev pub Gathering : ℕ → List ℕ → Type 0
-  Gathering i bytes = bytes ≡ (with_bytes h (take i more)).bytes
-
-  pub gathering_begins : Gathering 0 h.bytes
-  unfolding with_bytes
-  gathering_begins = refl
-
-  pub gathering_goes_on : {i : ℕ} {bytes : List ℕ} → i < length more → Gathering i bytes
-      → Gathering (i + 1) (set bytes (h.count + i) (get_or more i 0))
-  gathering_goes_on {i} {bytes} l e =
-      let n : h.count + i ≡ (with_bytes h (take i more)).count =
-      omega (arith, with_count h (take i more), length-take-le i more (omega arith)) in
-      ap₂ (λ (a : List ℕ) k. set a k (get_or more i 0)) e n
-      ∙ sym (ap (λ (l : List ℕ). (with_bytes h l).bytes) (ap (λ k. take k more) (add-one i) ∙ take-suc more i 0 l)
-      ∙ ap (λ (g : Held). g.bytes) (with-more h (take i more) (get_or more i 0)))
-
-  pub gathering_ends : {i : ℕ} {bytes : List ℕ} → i ≤ length more → length more ≤ i → Gathering i bytes
-      → record { bytes = bytes; count = h.count + i; left = h.left } ≡ with_bytes h more
-  gathering_ends {i} {bytes} l m e =
-      let all : take i more ≡ more = take_all i more m in
-      let n : h.count + i ≡ (with_bytes h more).count = omega (arith, with_count h more) in
-      ap₂ (λ (a : List ℕ) k. record { bytes = a; count = k; left = h.left }) (e ∙ ap (λ (l : List ℕ). (with_bytes h l).bytes) all) n
-      ∙ ap (λ k. record { bytes = (with_bytes h more).bytes; count = (with_bytes h more).count; left = k }) (sym (with-left h more))
+-- they stand after those held
+pub gathered_bytes : (h : Held) (bs : List ℕ) → h.count + length bs ≤ length h.bytes
+    → record {
+      bytes = take h.count h.bytes ++ (bs ++ drop (h.count + length bs) h.bytes);
+      count = h.count + length bs;
+      left = h.left;
+    } ≡ with_bytes h bs
+unfolding with_bytes
+gathered_bytes h [] l =
+    let e : h.count + 0 ≡ h.count = omega arith in
+    ap (λ n. record { bytes = take h.count h.bytes ++ drop n h.bytes; count = n; left = h.left }) e
+    ∙ ap (λ (x : List ℕ). record { bytes = x; count = h.count; left = h.left }) (take-append-drop h.count h.bytes)
+gathered_bytes h (b ∷ bs) l =
+    let g = with_byte h b in
+    let n : h.count + suc (length bs) ≡ g.count + length bs = omega arith in
+    let front : take g.count g.bytes ≡ take h.count h.bytes ++ (b ∷ []) =
+    ap (λ k. take k g.bytes) (add-one h.count) ∙ take-suc-set h.bytes h.count b (omega arith) in
+    let back : drop (g.count + length bs) g.bytes ≡ drop (g.count + length bs) h.bytes = drop-set-lt (g.count + length bs) h.bytes h.count b (omega arith) in
+    ap₂ (λ (x : List ℕ) k. record { bytes = x; count = k; left = h.left })
+    (sym (append_assoc (take h.count h.bytes) (b ∷ []) (bs ++ drop (h.count + suc (length bs)) h.bytes))
+    ∙ ap₂ (λ (x y : List ℕ). x ++ (bs ++ y)) (sym front) (ap (λ k. drop k h.bytes) n ∙ sym back)) n
+    ∙ gathered_bytes g bs (omega (arith, length-set h.bytes h.count b))
 
 -- ---- what comes of bytes that can't decide their field
 pub record Gathered (h : Held) (bs : List ℕ) : Type 0 where

@@ -5,7 +5,6 @@ use mathlib.Core.List.{List}
 use Prim.Native.Nat.{ℕ, ◌+◌, ◌-◌, ◌≤◌}
 use native.Mathlib.Omega.{arith}
 use lib.ListN.{length, length-set}
-use lib.Seq.{length-take-le}
 use Rattle.model.specs.Run.{field_length}
 use Rattle.model.specs.Rewrite.{empty_disturbance}
 use Rattle.text.specs.Appended.{Appended, named, none_put}
@@ -52,9 +51,6 @@ module _ (h : Held) (b : ℕ) where
       with-within =
           subst (λ (g : Held). g.count ≤ length g.bytes) (sym is)
           (omega (arith, length-set h.bytes h.count b, r.room, held_below h r))
-
-      pub with_count : w.count ≡ length (held_bytes w)
-      with_count = sym (length-take-le w.count w.bytes with-within)
 
       pub with-more : length (held_bytes w) ≡ h.count + 1
       with-more = ap (λ (g : Held). length (held_bytes g)) is ∙ next_count h r b

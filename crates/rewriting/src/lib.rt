@@ -3,7 +3,7 @@
 // leaves. However an input is cut, what the calls hand over is what is left of it (specs/Pieces.antt).
 #![tactic(auto)]
 
-ghost use Rattle.std.specs.Prelude.{◌≡◌, true, ◌+◌, ◌-◌, ◌≤◌, ◌<◌, min, length};
+ghost use Rattle.std.specs.Prelude.{◌≡◌, true, ◌+◌, ◌-◌, ◌≤◌, ◌<◌, length};
 ghost use Rattle.model.specs.Run.{field_length};
 ghost use Rattle.model.specs.Rewrite.{empty_disturbance};
 ghost use Rattle.text.specs.Appended.{Appended};
@@ -27,6 +27,16 @@ pub struct Held {
     bytes: [u8; 28],
     count: usize,
     left: usize,
+}
+
+impl Held {
+    // The bytes of the field that isn't decided yet.
+    fn bytes(&self) -> &[u8]
+        requires { self.now.count ≤ length self.now.bytes }
+        ensures { result.now ≡ held_bytes self.now }
+    {
+        &self.bytes[..self.count]
+    }
 }
 
 // What is held after some bytes, and up to where the lent slice is written.
@@ -66,8 +76,7 @@ pub fn give(h: Held, piece: &[u8], out: &mut [u8]) -> Given
     let mut written = 0;
     while used < piece.len() {
         let t = turn(held, &piece[used..], out, written);
-        let next = t.held;
-        held = next;
+        held = t.held;
         used += t.used;
         written = t.written;
     }
@@ -79,9 +88,7 @@ pub fn close(h: Held, out: &mut [u8]) -> usize
     requires { Reached h × (28 ≤ length out.old) }
     ensures { Appended 28 out.old out.new 0 result (held_bytes h) }
 {
-    let bytes = h.bytes;
-    let count = h.count;
-    text::appending::append(out, 0, &bytes[..count])
+    text::appending::append(out, 0, h.bytes())
 }
 
 // Takes a byte or more of what is left of a piece, where the lent slice is written up to `at`: all that came of a field that stays, or
@@ -93,14 +100,10 @@ fn turn(h: Held, rest: &[u8], out: &mut [u8], at: usize) -> Taken
     if h.left > 0 {
         return copy(h, rest, out, at);
     }
-    let bytes = h.bytes;
-    let count = h.count;
-    let n = least(still_open(&bytes[..count]), rest.len() - 1);
-    let gathered = gather(h, &rest[..n]);
-    let g = join(gathered, rest[n], out, at);
-    let held = g.held;
+    let n = still_open(h.bytes()).min(rest.len() - 1);
+    let g = join(gather(h, &rest[..n]), rest[n], out, at);
     Taken {
-        held,
+        held: g.held,
         used: n + 1,
         written: g.written,
     }
@@ -111,14 +114,12 @@ fn copy(h: Held, rest: &[u8], out: &mut [u8], at: usize) -> Taken
     requires { Reached h × (0 < h.left) × (0 < length rest.now) × (at + length rest.now ≤ length out.old) }
     ensures { Turned h rest.now out.old out.new at result }
 {
-    let n = least(h.left, rest.len());
+    let n = h.left.min(rest.len());
     let written = text::appending::append(out, at, &rest[..n]);
-    let bytes = h.bytes;
     Taken {
         held: Held {
-            bytes,
-            count: h.count,
             left: h.left - n,
+            ..h
         },
         used: n,
         written,
@@ -130,18 +131,11 @@ fn gather(h: Held, more: &[u8]) -> Held
     requires { h.count + length more.now ≤ 28 }
     ensures { result ≡ with_bytes h more.now }
 {
-    let mut bytes = h.bytes;
-    let count = h.count;
-    let mut i = 0;
-    while i < more.len() {
-        bytes[count + i] = more[i];
-        i += 1;
-    }
-    Held {
-        bytes,
-        count: count + i,
-        left: h.left,
-    }
+    let end = h.count + more.len();
+    let mut held = h;
+    held.bytes[h.count..end].copy_from_slice(more);
+    held.count = end;
+    held
 }
 
 // One byte more is held; where that decides its field, the held bytes are dropped or written.
@@ -150,28 +144,26 @@ fn join(h: Held, b: u8, out: &mut [u8], at: usize) -> Given
     ensures { Done (h.count + 1) (byte_joined h b) out.old out.new at result }
 {
     let held = with_byte(h, b);
-    let bytes = held.bytes;
-    let count = held.count;
-    if is_open(&bytes[..count]) {
+    if is_open(held.bytes()) {
         return Given { held, written: at };
     }
-    if is_empty(&bytes[..count]) {
+    if is_empty(held.bytes()) {
         return Given {
             held: Held {
-                bytes,
                 count: 0,
                 left: 0,
+                ..held
             },
             written: at,
         };
     }
-    let left = missing(&bytes[..count]);
-    let written = text::appending::append(out, at, &bytes[..count]);
+    let left = missing(held.bytes());
+    let written = text::appending::append(out, at, held.bytes());
     Given {
         held: Held {
-            bytes,
             count: 0,
             left,
+            ..held
         },
         written,
     }
@@ -182,14 +174,10 @@ fn with_byte(h: Held, b: u8) -> Held
     requires { h.count < 28 }
     ensures { result ≡ with_byte h b }
 {
-    let mut bytes = h.bytes;
-    let count = h.count;
-    bytes[count] = b;
-    Held {
-        bytes,
-        count: count + 1,
-        left: h.left,
-    }
+    let mut held = h;
+    held.bytes[h.count] = b;
+    held.count += 1;
+    held
 }
 
 // Whether the bytes of a field's start may still become an empty disturbance.
@@ -257,14 +245,4 @@ fn missing(f: &[u8]) -> usize
     ensures { result ≡ field_length f.now - length f.now }
 {
     HEADER + words::short_at(f, 1) - f.len()
-}
-
-// The smaller of two.
-fn least(a: usize, b: usize) -> usize
-    ensures { result ≡ min a b }
-{
-    if a < b {
-        return a;
-    }
-    b
 }

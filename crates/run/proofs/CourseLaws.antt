@@ -1,4 +1,4 @@
--- The laws of a run's course: it begins, goes on by a field, and ends.
+-- The laws of a run over a whole input: it begins, goes on by a field, and ends.
 use Rattle.std.specs.Prelude.{◌≡◌, Bool, true, false, ◌||◌, ℕ, zero, suc, ◌+◌, ◌<◌, ◌≤◌, length, drop}
 use Rattle.std.proofs.Math.Path.{refl, sym, ap}
 use Rattle.std.proofs.Common.{◌∙◌, ap₂, subst, true≢false, arith, length-drop, length-take, drop-drop, eqb-true}
@@ -12,30 +12,26 @@ use Rattle.model.specs.Run as Model
 use Rattle.model.specs.Run.{begin, after, answer, fields, fields_within, run, first_field, field_length}
 use Rattle.model.specs.Rest.{fields_left}
 use Rattle.model.proofs.Cutting.{fields_after, first-left, goes_on}
-use Rattle.model.proofs.Sound.{Sound, begin_sound, after_sound}
+use Rattle.model.proofs.Sound.{begin_sound, after_sound}
 use Rattle.states.specs.declared.State.{State}
 use Rattle.states.specs.declared.Answer.{Answer}
 use Rattle.states.specs.State.{record_of, beginning}
 use Rattle.states.specs.Answer.{answer_of}
-use Rattle.advance.specs.declared.Advanced.{Advanced}
-use Rattle.advance.specs.Advanced.{step_worked, advanced, Used}
-use Rattle.advance.specs.RecordRuns.{advanced_record}
-use Rattle.run.specs.declared.Course.{Course}
+use Rattle.advance.specs.Advanced.{step_worked, Used}
 use Rattle.run.specs.Whole.{last_answer, any_worked, no_answer}
-use Rattle.run.specs.Course.{started, turned, Coursing}
+use Rattle.run.specs.Course.{Coursing, Ended}
 
-pub begins : (input : List ℕ) → Coursing input started begin
+pub begins : (input : List ℕ) → Coursing input 0 beginning false begin
 unfolding fields_left
 begins input = record {
   record_is = refl;
   sound = begin_sound;
+  on = refl;
   within = omega arith;
+  more = λ e. refl;
   states = refl;
   lasts = refl;
   works = refl;
-  over_done = λ e. refl;
-  more = λ e h. refl;
-  ended = λ e. absurd (true≢false (sym e));
 }
 
 -- ---- a run that is over, whatever fields are given to it
@@ -63,97 +59,14 @@ over_idle [] v e = refl
 over_idle (f ∷ l) v e =
     ap₂ ◌||◌ (chosen v.over false _ e) (ap (λ (x : Model.State). any_worked x l) (over_after v f e) ∙ over_idle l v e)
 
--- ---- one turn
-module _ {input : List ℕ} {c : Course} {u : Model.State} (h : Coursing input c u) (on : c.done ≡ false) where
-  abbrev rest : List ℕ
-  rest = drop c.at input
+-- one that goes on forgets the answer before
+next-answer : (place : ℕ) (v : Model.State) (f : List ℕ) (l : List (List ℕ)) (a b : Answer) → v.over ≡ false
+    → last_answer place v (f ∷ l) a ≡ last_answer place v (f ∷ l) b
+unfolding last_answer
+next-answer place v f l a b e =
+    let then = last_answer (place + length f) (after v f) l (answer_of (answer place v f) (length f)) in
+    ap (λ o. cond o a then) e ∙ sym (ap (λ o. cond o b then) e)
 
-  abbrev f : List ℕ
-  f = first_field rest
-
-  -- what is left has a first field
-  left_is : fields_left u.count rest ≡ f ∷ fields_after rest
-  left_is = first-left u.count rest (λ e. h.more on (omega (arith, h.within, length-drop c.at input)))
-
-  -- the next place
-  abbrev next : ℕ
-  next = c.at + length f
-
-  next-within : next ≤ length input
-  next-within = omega (arith, h.within, length-drop c.at input, length-take (field_length rest) rest)
-
-  after-rest : drop next input ≡ drop (length f) rest
-  after-rest = sym (drop-drop (length f) c.at input)
-
-  -- what the turn gives, by the definitions
-  abbrev then : Course
-  then = record {
-    last = answer_of (answer c.at u f) (length f);
-    state = record_of (after u f);
-    at = next;
-    worked = c.worked || step_worked u f;
-    done = (after u f).over || eqb next (length input);
-  }
-
-  pub turned_is : turned c input ≡ then
-  unfolding turned answer_of
-  turned_is =
-      ap by (ap (λ (st : State). advanced c.at st f) h.record_is ∙ advanced_record h.sound c.at f)
-    where
-      by : Advanced → Course
-      by r = record {
-        last = r.answer;
-        state = r.state;
-        at = c.at + r.answer.bytes;
-        worked = c.worked || r.worked;
-        done = r.state.over || eqb (c.at + r.answer.bytes) (length input);
-      }
-
-  -- what is left then, where the run isn't over
-  left_after : (after u f).over ≡ false → fields_left (after u f).count (drop next input) ≡ fields_after rest
-  unfolding fields_left
-  left_after e =
-      ap (λ n. fields_left n (drop next input)) (goes_on u f e) ∙ ap (λ (l : List ℕ). fields_within (length l) l) after-rest
-
-  -- the whole, by the first field and the others
-  states_so : run (fields_after rest) (after u f) ≡ run (fields input) begin
-  unfolding run
-  states_so = sym (ap (λ l. run l u) left_is) ∙ h.states
-
-  lasts_so : last_answer next (after u f) (fields_after rest) (answer_of (answer c.at u f) (length f))
-      ≡ last_answer 0 begin (fields input) no_answer
-  unfolding last_answer
-  lasts_so = sym (ap (λ b. cond b c.last (last_answer next (after u f) (fields_after rest) (answer_of (answer c.at u f) (length f)))) (h.over_done on))
-      ∙ sym (ap (λ l. last_answer c.at u l c.last) left_is) ∙ h.lasts
-
-  works_so : ((c.worked || step_worked u f) || any_worked (after u f) (fields_after rest)) ≡ any_worked begin (fields input)
-  unfolding any_worked
-  works_so =
-      or_assoc c.worked (step_worked u f) (any_worked (after u f) (fields_after rest))
-      ∙ sym (ap (λ l. c.worked || any_worked u l) left_is) ∙ h.works
-
-  pub turns : Coursing input then (after u f)
-  turns = record {
-    record_is = refl;
-    sound = after_sound h.sound f;
-    within = next-within;
-    states = by_over (after u f).over refl (λ l. run l (after u f)) (λ e l k. over_stays l (after u f) e ∙ sym (over_stays k (after u f) e)) states_so;
-    lasts = by_over (after u f).over refl (λ l. last_answer next (after u f) l (answer_of (answer c.at u f) (length f)))
-        (λ e l k. over_answer next l (after u f) _ e ∙ sym (over_answer next k (after u f) _ e)) lasts_so;
-    works = by_over (after u f).over refl (λ l. (c.worked || step_worked u f) || any_worked (after u f) l)
-        (λ e l k. ap (λ b. (c.worked || step_worked u f) || b) (over_idle l (after u f) e ∙ sym (over_idle k (after u f) e))) works_so;
-    over_done = λ e. or_left (after u f).over (eqb next (length input)) e;
-    more = λ e q. absurd (eqb-false next (length input) (or_right (after u f).over (eqb next (length input)) e) q);
-    ended = λ e q. (eqb-true next (length input) (ap (◌|| eqb next (length input)) (sym q) ∙ e), omega (arith, goes_on u f q));
-  }
-    where
-      by_over : {A : Type 0} (b : Bool) → (after u f).over ≡ b → (g : List (List ℕ) → A)
-          → ((after u f).over ≡ true → (l k : List (List ℕ)) → g l ≡ g k) → {x : A} → g (fields_after rest) ≡ x
-          → g (fields_left (after u f).count (drop next input)) ≡ x
-      by_over true e g same p = same e (fields_left (after u f).count (drop next input)) (fields_after rest) ∙ p
-      by_over false e g same p = ap g (left_after e) ∙ p
-
--- ---- the end
 -- nothing is left after the last byte
 none_left : (n : ℕ) (input : List ℕ) (at : ℕ) → 0 < n → at ≡ length input → fields_left n (drop at input) ≡ []
 unfolding fields_left fields_within
@@ -161,34 +74,103 @@ none_left zero input at l e = absurd (omega arith)
 none_left (suc n) input at l e =
     ap (λ (k : List ℕ). fields_within (length k) k) (ap (λ m. drop m input) e ∙ drop-length input)
 
-module _ {input : List ℕ} {c : Course} {u : Model.State} (h : Coursing input c u) (done : c.done ≡ true) where
-  -- what is left changes nothing
-  pub record Idle (l : List (List ℕ)) : Type 0 where
-    pub state : run l u ≡ u
-    pub last : last_answer c.at u l c.last ≡ c.last
-    pub worked : any_worked u l ≡ false
+-- ---- one field
+module _ {input : List ℕ} {at : ℕ} {st : State} {worked : Bool} {u : Model.State} (h : Coursing input at st worked u) where
+  abbrev rest : List ℕ
+  rest = drop at input
 
-  idle : Idle (fields_left u.count (drop c.at input))
-  unfolding run last_answer any_worked
-  idle = go u.over refl
+  abbrev f : List ℕ
+  f = first_field rest
+
+  -- the next place, and what is answered and left
+  abbrev next : ℕ
+  next = at + length f
+
+  abbrev last : Answer
+  last = answer_of (answer at u f) (length f)
+
+  abbrev v : Model.State
+  v = after u f
+
+  abbrev used : Bool
+  used = worked || step_worked u f
+
+  -- what is left has a first field
+  left_is : fields_left u.count rest ≡ f ∷ fields_after rest
+  left_is = first-left u.count rest (λ e. h.more (omega (arith, h.within, length-drop at input)))
+
+  pub next-within : next ≤ length input
+  next-within = omega (arith, h.within, length-drop at input, length-take (field_length rest) rest)
+
+  -- what is left then, where the run isn't over
+  left_after : v.over ≡ false → fields_left v.count (drop next input) ≡ fields_after rest
+  unfolding fields_left
+  left_after e =
+      ap (λ n. fields_left n (drop next input)) (goes_on u f e)
+      ∙ ap (λ (l : List ℕ). fields_within (length l) l) (sym (drop-drop (length f) at input))
+
+  -- the whole, by the first field and the others
+  states_so : run (fields_after rest) v ≡ run (fields input) begin
+  unfolding run
+  states_so = sym (ap (λ l. run l u) left_is) ∙ h.states
+
+  lasts_so : last_answer next v (fields_after rest) last ≡ last_answer 0 begin (fields input) no_answer
+  unfolding last_answer
+  lasts_so =
+      sym (ap (λ b. cond b no_answer (last_answer next v (fields_after rest) last)) h.on)
+      ∙ sym (ap (λ l. last_answer at u l no_answer) left_is) ∙ h.lasts
+
+  works_so : (used || any_worked v (fields_after rest)) ≡ any_worked begin (fields input)
+  unfolding any_worked
+  works_so =
+      or_assoc worked (step_worked u f) (any_worked v (fields_after rest))
+      ∙ sym (ap (λ l. worked || any_worked u l) left_is) ∙ h.works
+
+  -- it goes on
+  pub turns : (v.over || eqb next (length input)) ≡ false → Coursing input next (record_of v) used v
+  turns e = let on = or_left v.over (eqb next (length input)) e in record {
+    record_is = refl;
+    sound = after_sound h.sound f;
+    on = on;
+    within = next-within;
+    more = λ q. absurd (not_end q);
+    states = ap (λ l. run l v) (left_after on) ∙ states_so;
+    lasts = forgets on ∙ ap (λ l. last_answer next v l last) (left_after on) ∙ lasts_so;
+    works = ap (λ l. used || any_worked v l) (left_after on) ∙ works_so;
+  }
     where
-      left : List (List ℕ)
-      left = fields_left u.count (drop c.at input)
+      not_end : next ≡ length input → ⊥
+      not_end = eqb-false next (length input) (or_right v.over (eqb next (length input)) e)
 
-      go : (b : Bool) → u.over ≡ b → Idle left
-      go true e = record { state = over_stays left u e; last = over_answer c.at left u c.last e; worked = over_idle left u e }
-      go false e =
-          let q = h.ended done e in
-          subst Idle (sym (none_left u.count input c.at q.1 q.0)) (record { state = refl; last = refl; worked = refl })
+      forgets : v.over ≡ false → last_answer next v (fields_left v.count (drop next input)) no_answer
+          ≡ last_answer next v (fields_left v.count (drop next input)) last
+      forgets on =
+          rw (first-left v.count (drop next input) (λ z. absurd (not_end (omega (arith, next-within, length-drop next input)))))
+          (next-answer next v (first_field (drop next input)) (fields_after (drop next input)) no_answer last on)
 
-  pub end_state : c.state ≡ record_of (run (fields input) begin)
-  end_state = h.record_is ∙ ap record_of (sym idle.state ∙ h.states)
+  -- or ends: what is left changes nothing
+  record Idle (l : List (List ℕ)) : Type 0 where
+    state : run l v ≡ v
+    last_is : last_answer next v l last ≡ last
+    works : any_worked v l ≡ false
 
-  pub end_last : c.last ≡ last_answer 0 begin (fields input) no_answer
-  end_last = sym idle.last ∙ h.lasts
+  pub ends : (v.over || eqb next (length input)) ≡ true → Ended input last (record_of v) used
+  unfolding run last_answer any_worked
+  ends e = let i = idle in record {
+    state = ap record_of (sym i.state ∙ states_so);
+    last_is = sym i.last_is ∙ lasts_so;
+    works = sym (ap (used ||◌) i.works ∙ or-false used) ∙ works_so;
+  }
+    where
+      go : (b : Bool) → v.over ≡ b → Idle (fields_after rest)
+      go true o = record { state = over_stays (fields_after rest) v o; last_is = over_answer next (fields_after rest) v last o; works = over_idle (fields_after rest) v o }
+      go false o =
+          let at_end = eqb-true next (length input) (ap (◌|| eqb next (length input)) (sym o) ∙ e) in
+          subst Idle (sym (none_left v.count input next (omega (arith, goes_on u f o)) at_end) ∙ left_after o)
+          (record { state = refl; last_is = refl; works = refl })
 
-  pub end_worked : c.worked ≡ any_worked begin (fields input)
-  end_worked = sym (ap (c.worked ||◌) idle.worked ∙ or-false c.worked) ∙ h.works
+      idle : Idle (fields_after rest)
+      idle = go v.over refl
 
 -- ---- the work slices
 -- not used at all

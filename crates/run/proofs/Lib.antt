@@ -11,3 +11,5 @@ pub mod RunEnclosed
 pub mod CourseLaws
 -- one turn of a run over a whole input, and the loop's invariant
 pub mod Turning
+-- a work slice that is cleared where it was used
+pub mod Cleared

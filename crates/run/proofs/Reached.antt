@@ -17,6 +17,8 @@ use Rattle.model.specs.Library.{of_first, bad_next}
 use Rattle.model.proofs.Sound.{Sound, begin_sound, after_sound}
 use Rattle.zonotope.specs.Record.{pack, given}
 use Rattle.zonotope.specs.Answer.{or_else, first_append}
+use Rattle.zonotope.specs.declared.Cause.{Cause}
+use Rattle.zonotope.specs.declared.Cause.TheVariants.{WorkTooShort}
 use Rattle.states.specs.declared.State.{State}
 use Rattle.states.specs.declared.Outcome.TheVariants.{Unfit}
 use Rattle.states.specs.State.{viewed, record_of, beginning}
@@ -63,7 +65,7 @@ fielded_is {u} s place rest =
 
 -- a call whose slices are too short leaves the state as it came
 pub short_is : (place : ℕ) (st : State) (rest : List ℕ)
-    → fielded true place st rest ≡ record { answer = unfit_answer st.count 13; state = st }
+    → fielded true place st rest ≡ record { answer = unfit_answer st.count WorkTooShort; state = st }
 unfolding fielded unfit first_of
 short_is place st rest = refl
 
@@ -83,7 +85,7 @@ module _ {st : State} (h : Reached st) (c : Call) where
       → called st c ≡ record { answer = answer_of (answer c.place h.state f) (length f); state = record_of (after h.state f) }
   with_room e = rw (e, h.record_is) (fielded_is h.sound c.place c.rest)
 
-  without-room : short c ≡ true → called st c ≡ record { answer = unfit_answer st.count 13; state = st }
+  without-room : short c ≡ true → called st c ≡ record { answer = unfit_answer st.count WorkTooShort; state = st }
   without-room e = rw e (short_is c.place st c.rest)
 
   call_reaches : Reached (called st c).state
@@ -99,12 +101,12 @@ calls_reach h [] = h
 calls_reach {st = st} h (c ∷ cs) = calls_reach {st = (called st c).state} (call_reaches h c) cs
 
 -- what the definitions answer refuses no call
-not-unfit : (o : Outcome) (n : ℕ) → ¬ (outcome_of o ≡ Unfit n)
-not-unfit (inside b) n e = let z : ◌≡◌ {A = ℕ} 0 1 = cc in omega arith
-not-unfit (verdict true) n e = let z : ◌≡◌ {A = ℕ} 0 1 = cc in omega arith
-not-unfit (verdict false) n e = let z : ◌≡◌ {A = ℕ} 0 1 = cc in omega arith
-not-unfit (refused m place) n e = let z : ◌≡◌ {A = ℕ} 0 1 = cc in omega arith
-not-unfit skipped n e = let z : ◌≡◌ {A = ℕ} 0 1 = cc in omega arith
+not-unfit : (o : Outcome) (c : Cause) → ¬ (outcome_of o ≡ Unfit c)
+not-unfit (inside b) c e = let z : ◌≡◌ {A = ℕ} 0 1 = cc in omega arith
+not-unfit (verdict true) c e = let z : ◌≡◌ {A = ℕ} 0 1 = cc in omega arith
+not-unfit (verdict false) c e = let z : ◌≡◌ {A = ℕ} 0 1 = cc in omega arith
+not-unfit (refused m place) c e = let z : ◌≡◌ {A = ℕ} 0 1 = cc in omega arith
+not-unfit skipped c e = let z : ◌≡◌ {A = ℕ} 0 1 = cc in omega arith
 
 -- After any calls the next one is refused only where its slices are too short.
 pub never_unfit : NeverUnfit

@@ -2,6 +2,7 @@
 use Rattle.std.specs.Prelude.{List, Bool, false, ℕ}
 use Rattle.std.proofs.Math.Option.{Option, none, some}
 use Rattle.model.specs.Run.{first_field}
+use Rattle.zonotope.specs.Answer.{cause_of}
 use Rattle.states.specs.declared.State.{State}
 use Rattle.states.specs.declared.Fielded.{Fielded}
 use Rattle.states.specs.State.{viewed}
@@ -10,10 +11,10 @@ use Rattle.states.specs.Taken.{taken}
 use Rattle.advance.specs.Advanced.{step_worked}
 use Rattle.run.specs.Unfit.{unfit}
 
--- what a call returns: what it takes, or where it is refused with a number, the state as it came
+-- what a call returns: what it takes, or where it is refused with the cause of a number, the state as it came
 abbrev pub returned : Option ℕ → State → Fielded → Fielded
 returned none st r = r
-returned (some n) st r = record { answer = unfit_answer st.count n; state = st }
+returned (some n) st r = record { answer = unfit_answer st.count (cause_of n); state = st }
 
 -- the first field of what is left of an input
 unfoldable pub fielded : Bool → ℕ → State → List ℕ → Fielded

@@ -1,5 +1,5 @@
 -- What a call returns and leaves in the work slices, from what the field gave.
-use Rattle.std.specs.Prelude.{◌≡◌, List, ltb}
+use Rattle.std.specs.Prelude.{◌≡◌, List, ltb, Err}
 use Rattle.std.proofs.Common.{sym, ◌∙◌, ltb-false}
 use Rattle.std.proofs.Math.Path.{ap}
 use Rattle.std.proofs.Math.Option.{Option, none, some}
@@ -7,10 +7,9 @@ use Rattle.std.proofs.Math.Bool.{Bool, false}
 use Prim.Native.Nat.{ℕ, ◌≤◌}
 use Rattle.whole.specs.Tests.{or_left, or_right}
 use Rattle.model.specs.Run.{first_of, first_field}
-use Rattle.zonotope.specs.declared.Examined.{Examined}
-use Rattle.zonotope.specs.declared.Examined.TheVariants.{Accepted, Refused}
+use Rattle.zonotope.specs.declared.Cause.{Cause}
 use Rattle.zonotope.specs.Valid.{passed}
-use Rattle.zonotope.specs.Answer.{examined, accepted, refused-with}
+use Rattle.zonotope.specs.Answer.{Examined, Accepted, examined, accepted, refused-with}
 use Rattle.stepping.specs.Work.{work_numbers, work_exponents}
 use Rattle.step.specs.Answer.{without_room}
 use Rattle.states.specs.declared.State.{State}
@@ -35,12 +34,15 @@ module _ (place : ℕ) (st : State) (f : List ℕ) {a : Advanced} (p : a ≡ adv
 
 -- ---- a call, by what refuses it
 module _ {o : Examined} (short : Bool) (st : State) (from : o ≡ examined (unfit short st)) (place : ℕ) (rest : List ℕ) where
-  pub call_refused : (n : ℕ) → o ≡ Refused n
-      → (record { answer = unfit_answer st.count n; state = st } ≡ fielded short place st rest) × (field_worked short st rest ≡ false)
+  pub call_refused : {c : Cause} → o ≡ Err c
+      → (record { answer = unfit_answer st.count c; state = st } ≡ fielded short place st rest) × (field_worked short st rest ≡ false)
   unfolding fielded field_worked
-  call_refused n e =
-      let q = refused-with (unfit short st) n (sym from ∙ e) in
-      (ap (λ u. returned u st (taken place st (first_field rest))) (sym q), ap worked_by q)
+  call_refused {c} e =
+      let q = refused-with (unfit short st) (sym from ∙ e) in (
+        ap (λ (c : Cause). record { answer = unfit_answer st.count c; state = st }) q.2
+            ∙ ap (λ u. returned u st (taken place st (first_field rest))) (sym q.1),
+        ap worked_by q.1,
+      )
     where
       worked_by : Option ℕ → Bool
       worked_by u = elim u [ none ↦ step_worked (viewed st) (first_field rest) | some n ↦ false ]

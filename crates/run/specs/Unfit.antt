@@ -14,8 +14,7 @@ use Rattle.model.specs.Limits.{first_fresh, last_fresh, max_total}
 use Rattle.model.specs.Set.{Zonotope}
 use Rattle.model.specs.Run.{Cause, ◌if◌, first_of, current}
 use Rattle.model.specs.Library.{of_first, examine, bad_next}
-use Rattle.zonotope.specs.declared.Examined.TheVariants.{Accepted, Refused}
-use Rattle.zonotope.specs.Answer.{examined, or_else, first_append}
+use Rattle.zonotope.specs.Answer.{Accepted, Refused, examined, or_else, first_append}
 use Rattle.zonotope.specs.Record.{view, given}
 use Rattle.zonotope.specs.Valid.{passed}
 use Rattle.states.specs.declared.State.{State}

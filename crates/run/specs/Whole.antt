@@ -3,6 +3,7 @@ use Rattle.std.specs.Prelude.{◌≡◌, List, [], ◌∷◌, Bool, true, false,
 use Rattle.model.specs.Field.{skipped}
 use Rattle.model.specs.Run as Model
 use Rattle.model.specs.Run.{begin, after, answer, fields, run}
+use Rattle.zonotope.specs.declared.Cause.TheVariants.{WorkTooShort}
 use Rattle.states.specs.declared.Answer.{Answer}
 use Rattle.states.specs.State.{record_of, beginning}
 use Rattle.states.specs.Answer.{answer_of, unfit_answer}
@@ -34,7 +35,7 @@ of_input input = record {
 
 -- without room in the work slices nothing is looked at: 13
 unfoldable pub ran_of : Bool → List ℕ → Ran
-ran_of short input = cond short (record { accepted = 0; last = unfit_answer 0 13; state = beginning }) (of_input input)
+ran_of short input = cond short (record { accepted = 0; last = unfit_answer 0 WorkTooShort; state = beginning }) (of_input input)
 
 -- whether the work slices were used
 unfoldable pub run_worked : Bool → List ℕ → Bool
@@ -42,7 +43,7 @@ run_worked short input = not short && any_worked begin (fields input)
 
 -- ---- both, by whether there is room
 pub run_short : (input : List ℕ) {short : Bool} → short ≡ true
-    → (record { accepted = 0; last = unfit_answer 0 13; state = beginning } ≡ ran_of short input) × (run_worked short input ≡ false)
+    → (record { accepted = 0; last = unfit_answer 0 WorkTooShort; state = beginning } ≡ ran_of short input) × (run_worked short input ≡ false)
 unfolding ran_of run_worked
 run_short input e = (rw e, rw e)
 

@@ -9,7 +9,6 @@ ghost use Rattle.run.specs.Field.{fielded, field_worked};
 ghost use Rattle.run.specs.Whole.{ran_of, run_worked};
 
 use states::{Answer, Fielded, State};
-use zonotope::Examined;
 
 mod fitness;
 mod following;
@@ -26,29 +25,16 @@ pub struct Ran {
     pub state: State,
 }
 
-// How far a run has come: the last answer and state, where the next field begins, whether a step was worked out, and whether the run is
-// over or the input at its end.
-#[derive(Clone, Copy)]
-struct Course {
-    last: Answer,
-    state: State,
-    at: usize,
-    worked: bool,
-    done: bool,
-}
-
 // The state of a run that has no set yet.
 pub fn begin() -> State
     ensures { result ≡ beginning }
 {
-    let set = zonotope::empty();
-    let folded = [0u64; 6];
     State {
-        set,
+        set: zonotope::empty(),
         next: FIRST_FRESH,
         count: 0,
         over: false,
-        folded,
+        folded: [0; 6],
     }
 }
 
@@ -62,10 +48,9 @@ pub fn field(st: State, place: usize, rest: &[u8], w: &mut [i64], e: &mut [u8]) 
     ensures exponents { e.new ≡ cleared_if (field_worked (without_room (length w.old) (length e.old)) st
         rest.now) work_exponents 0 e.old }
 {
-    let o = fitness::of_call(st, w.len(), e.len());
-    match o {
-        Examined::Refused(number) => taking::unfit(st, number),
-        Examined::Accepted => taking::taken(st, place, rest, w, e),
+    match fitness::of_call(st, w.len(), e.len()) {
+        Ok(()) => taking::taken(st, place, rest, w, e),
+        Err(cause) => taking::unfit(st, cause),
     }
 }
 

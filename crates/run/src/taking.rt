@@ -10,29 +10,24 @@ ghost use Rattle.advance.specs.Running.{Running};
 ghost use Rattle.advance.specs.Advanced.{step_worked};
 
 use states::{Answer, Fielded, Outcome, State};
+use zonotope::Cause;
 
-// The answer of a call that is refused with this number: it takes no byte.
-pub fn unfit_answer(field: usize, number: u8) -> Answer
-    ensures { result ≡ unfit_answer field number }
+// The answer of a call that is refused for this cause: it takes no byte.
+#[tactic(auto, unfolding(states::specs::Answer::unfit_answer))]
+pub fn unfit_answer(field: usize, cause: Cause) -> Answer
+    ensures { result ≡ unfit_answer field cause }
 {
-    let low = [0i64; 6];
-    let high = [0i64; 6];
-    Answer {
-        field,
-        bytes: 0,
-        outcome: Outcome::Unfit(number),
-        sides: 0,
-        low,
-        high,
-    }
+    Answer::without_box(field, 0, Outcome::Unfit(cause))
 }
 
-// A call that is refused with this number leaves the state as it came.
-pub fn unfit(st: State, number: u8) -> Fielded
-    ensures { result ≡ record { answer = unfit_answer st.count number; state = st } }
+// A call that is refused for this cause leaves the state as it came.
+pub fn unfit(st: State, cause: Cause) -> Fielded
+    ensures { result ≡ record { answer = unfit_answer st.count cause; state = st } }
 {
-    let answer = unfit_answer(st.count, number);
-    Fielded { answer, state: st }
+    Fielded {
+        answer: unfit_answer(st.count, cause),
+        state: st,
+    }
 }
 
 // The field with which `rest` begins, given to a state that a run can have; the work slices are cleared where they were used.
@@ -45,12 +40,21 @@ pub fn taken(st: State, place: usize, rest: &[u8], w: &mut [i64], e: &mut [u8]) 
         e.old }
 {
     let a = advance::advance(st, place, rest, w, e);
-    let answer = a.answer;
-    let state = a.state;
-    if a.worked {
+    clear_used(a.worked, w, e);
+    Fielded {
+        answer: a.answer,
+        state: a.state,
+    }
+}
+
+// The work slices cleared, where a step was worked out in them.
+pub fn clear_used(worked: bool, w: &mut [i64], e: &mut [u8])
+    requires { (work_numbers ≤ length w.old) × (work_exponents ≤ length e.old) }
+    ensures numbers { w.new ≡ cleared_if worked work_numbers (pos 0) w.old }
+    ensures exponents { e.new ≡ cleared_if worked work_exponents 0 e.old }
+{
+    if worked {
         stepping::work::clear_numbers(w);
         stepping::work::clear_exponents(e);
-        return Fielded { answer, state };
     }
-    Fielded { answer, state }
 }

@@ -1,39 +1,48 @@
 -- The bar for a limit in a list of sizes, as a loop finds it, and the marks on what lies below it.
-use Rattle.std.specs.Prelude.{List, [], ◌∷◌, ◌++◌, Bool, true, false, not, ◌≡◌, refl, ℕ, zero, suc, ◌+◌, ◌-◌, ◌<◌, ◌≤◌, ltb, get_or, set}
+use Rattle.std.specs.Prelude.{List, [], ◌∷◌, ◌++◌, cond, Bool, true, false, not, ◌≡◌, refl, ℕ, zero, suc, ◌+◌, ◌-◌, ◌<◌, ◌≤◌, ltb, get_or, set}
 use Rattle.std.proofs.Common.{append-nil, append_assoc, sym, ap₂, ◌∙◌, arith, get_or-set_same, get_or-set_other, le-leb, le-ltb, lt-ltb}
 use Rattle.std.proofs.Math.Path.{ap}
 use Rattle.std.proofs.Math.Dec.{leb}
-use Rattle.std.proofs.Math.ListN.{length, length-append}
+use Rattle.std.proofs.Math.ListN.{length}
 use Rattle.std.proofs.lemmas.Bool.{lt-leb}
-use Rattle.whole.specs.Tab.{tab, length-tab, tab_cong}
+use Rattle.std.specs.List.{count_by}
+use Rattle.std.proofs.lemmas.List.{length-map}
+use Rattle.std.proofs.lemmas.List.Sums.{sum_by-cons}
+use Rattle.whole.specs.Tab.{tab, length-tab, tab_cong, tab_get_d}
+use Rattle.model.specs.Finish.{those}
 use Rattle.rational.specs.Sum.{All, none, more}
 use Rattle.model.specs.Motion.{places}
 use Rattle.model.proofs.WholeForms.{All-places}
 use Rattle.model.proofs.Select.{bar, left, keep_above, folded_below, by_less, low_keeps, low-folds, high_keeps, high-folds, keeps_none}
 use Rattle.model.proofs.Select.{folds_none}
 use Rattle.model.proofs.Level.{level, Bar, level_none, level-zero, level_out, level-falls}
-use Rattle.fold.specs.Chosen.{chosen, chosen_none, chosen_in, chosen_out, chosen_cong}
+use Rattle.fold.specs.Chosen.{chosen, chosen_none, chosen_in, chosen_out, chosen_cong, those-tab}
 use Rattle.fold.specs.Marks.{at, unmarked}
 
 -- the size at place k
 abbrev pub size_at : List ℕ → ℕ → ℕ
 size_at z k = get_or z k 0
 
--- ---- how many of the first n sizes reach T, counted from the first on
+-- ---- how many sizes reach T
+-- the library's count
+count_those : (p : ℕ → Bool) (l : List ℕ) → count_by p l ≡ length (those p l)
+unfolding those
+count_those p [] = refl
+count_those p (x ∷ l) = sum_by-cons (λ y. cond (p y) 1 0) x l ∙ go (p x) (count_those p l)
+  where
+    go : (b : Bool) → count_by p l ≡ length (those p l) → cond b 1 0 + count_by p l ≡ length (cond b (x ∷ those p l) (those p l))
+    go true e = omega arith
+    go false e = omega arith
+
 module _ (z : List ℕ) (T : ℕ) where
-  pub count_none : level (size_at z) T (places 0) ≡ 0
+  pub level_list : count_by (λ x. leb T x) z ≡ level (size_at z) T (places (length z))
   unfolding level
-  count_none = ap length (chosen_none (λ k. leb T (size_at z k)))
-
-  pub count_in : (k : ℕ) → T ≤ size_at z k → level (size_at z) T (places (k + 1)) ≡ level (size_at z) T (places k) + 1
-  unfolding level
-  count_in k h =
-      ap length (chosen_in (λ k. leb T (size_at z k)) k (le-leb T (size_at z k) h))
-      ∙ length-append (chosen (λ k. leb T (size_at z k)) k) (k ∷ [])
-
-  pub count_out : (k : ℕ) → size_at z k < T → level (size_at z) T (places (k + 1)) ≡ level (size_at z) T (places k)
-  unfolding level
-  count_out k h = ap length (chosen_out (λ k. leb T (size_at z k)) k (lt-leb T (size_at z k) h))
+  level_list =
+      let reach : ℕ → Bool = λ x. leb T x in
+      count_those reach z
+      ∙ ap (λ l. length (those reach l)) (sym (tab_get_d (length z) z 0 refl))
+      ∙ ap length (those-tab reach (length z) (size_at z))
+      ∙ length-map (chosen (λ k. leb T (size_at z k)) (length z)) (size_at z)
 
   -- none reaches what is above all
   pub count_top : (n : ℕ) → ((k : ℕ) → k < n → size_at z k < T) → level (size_at z) T (places n) ≡ 0

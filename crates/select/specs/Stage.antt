@@ -1,11 +1,13 @@
 -- The stages of finishing that fold terms or generators: what they ask, what their passes do, and what they leave.
-use Rattle.std.specs.Prelude.{List, [], ◌∷◌, map, Bool, true, false, not, ◌≡◌, refl, ℕ, zero, suc, ◌+◌, ◌*◌, ◌^◌, ◌<◌, ◌≤◌, ltb, length, get_or, ℤ}
+use Rattle.std.specs.Prelude.{List, [], ◌∷◌, map, Bool, true, false, not, ◌≡◌, refl, ℕ, zero, suc, ◌*◌, ◌^◌, ◌<◌, ◌≤◌, ltb, length, get_or, ℤ}
 use Rattle.std.proofs.Math.Path.{sym}
 use Rattle.std.proofs.Common.{ap, ap₂, ◌∙◌, arith}
+use Rattle.std.proofs.Common.{take, replicate, length-take-le}
+use Rattle.std.proofs.Math.ListN.{length-replicate}
 use Rattle.whole.specs.Tab.{tab, any}
 use Rattle.model.specs.Limits.{max_exponent}
 use Rattle.model.specs.Set.{Term}
-use Rattle.model.specs.Finish.{Core, Folded, those, all_even, too_high, size, fold_vector, fold_term, fold_all, fold_until}
+use Rattle.model.specs.Finish.{Core, Folded, those, all_even, too_high, size, fold_term, fold_all, fold_until}
 use Rattle.whole.specs.Tests.{any_found, any_none}
 use Rattle.model.proofs.Tests.{any_false}
 use Rattle.model.proofs.FoldsNothing.{all_pass}
@@ -14,13 +16,13 @@ use Rattle.model.proofs.FirstBySize.{term_size}
 use Rattle.rows.specs.Rows.{exponent_row, number_row, term_of, terms, Places, Small}
 use Rattle.fold.specs.Chosen.{chosen}
 use Rattle.fold.specs.Marks.{at, unmarked}
-use Rattle.fold.specs.Folding.{Under, core_of, Folding, folded_as, small_mono, under_mono}
+use Rattle.fold.specs.Folding.{core_of, folded, folded_as}
+pub use Rattle.fold.specs.Folding.{Bounded, bounded_none}
 use Rattle.select.specs.Selected.{Selected, parted, until_parted, those-parted, none_folded, few_left, left-within}
 
--- a test of a row of exponents: whether all are even, or else whether one is too large
-abbrev pub test : Bool → List ℕ → Bool
-test true xs = all_even xs
-test false xs = any (λ k. ltb max_exponent k) xs
+-- whether one of a row of exponents is too large
+abbrev pub high : List ℕ → Bool
+high xs = any (λ k. ltb max_exponent k) xs
 
 -- two lists that are kept alike, joined place by place
 joined : {X Y Z : Type 0} (h : X → Y → Z) (a : ℕ → X) (b : ℕ → Y) (ps : List ℕ) (m n : ℕ) (a' : ℕ → X) (b' : ℕ → Y) →
@@ -45,16 +47,15 @@ abbrev pub term_at : List ℕ → List ℕ → List ℤ → ℕ → Term
 term_at e heads s k = term_of e s (get_or heads k 0) k
 
 -- what the passes leave of the terms
-pub terms-passed : (e heads heads' : List ℕ) (s s' : List ℤ) (n m m' : ℕ) (gone even : List Bool) {c₀ c : List ℤ} {r₀ r : List ℕ} →
-    ((k : ℕ) → k < n → at even k ≡ all_even (exponent_row e (get_or heads k 0))) → Folding s gone even c₀ r₀ n c r →
+pub terms-passed : (e heads heads' : List ℕ) (s s' : List ℤ) (n m m' : ℕ) (gone : List Bool) (x : Core) {c : List ℤ} {r : List ℕ} →
+    core_of c r ≡ folded s gone (λ k. all_even (exponent_row e (get_or heads k 0))) n x →
     tab m' (λ k. get_or heads' k 0) ≡ map (λ k. get_or heads k 0) (chosen (unmarked gone) n) →
     tab m (number_row s') ≡ map (number_row s) (chosen (unmarked gone) n) →
-    state_of e heads' s' m c r ≡ parted fold_term (term_at e heads s) n gone (core_of c₀ r₀)
+    state_of e heads' s' m c r ≡ parted fold_term (term_at e heads s) n gone x
 unfolding terms
-terms-passed e heads heads' s s' n m m' gone even {c₀} {c} {r₀} {r} evens v p q =
-    ap₂ (λ (x : Core) (l : List Term). record { core = x; kept = l })
-    (folded_as s gone even c₀ r₀ v (λ k. fold_term (term_at e heads s k))
-    (λ k h x. ap (λ (b : Bool). fold_vector b (number_row s k) x) (evens k h)))
+terms-passed e heads heads' s s' n m m' gone x {c} {r} v p q =
+    ap₂ (λ (y : Core) (l : List Term). record { core = y; kept = l })
+    (v ∙ folded_as s gone (λ k. all_even (exponent_row e (get_or heads k 0))) x n (λ k. fold_term (term_at e heads s k)) (λ k h y. refl))
     (joined (λ (x : ℕ) (v : List ℤ). record { exponents = exponent_row e x; coefficients = v }) (λ k. get_or heads k 0) (number_row s)
     (chosen (unmarked gone) n) m' m (λ k. get_or heads' k 0) (number_row s') p q)
 
@@ -66,15 +67,6 @@ pub record Ready (e heads : List ℕ) (s : List ℤ) (n : ℕ) : Type 0 where
   pub rows_long : n * 6 ≤ length s
   pub rows : Places e heads
   pub small : Small (2 ^ 50) s
-
--- n folds or fewer move a centre and widen radii by at most 2^50 each
-pub record Bounded (n : ℕ) (c₀ c : List ℤ) (r₀ r : List ℕ) : Type 0 where
-  pub centre : (b : ℕ) → Small b c₀ → Small (b + n * 2 ^ 50) c
-  pub radii : (b : ℕ) → Under b r₀ → Under (b + n * 2 ^ 50) r
-
--- no fold at all
-pub bounded_none : (n : ℕ) (c : List ℤ) (r : List ℕ) → Bounded n c c r r
-bounded_none n c r = record { centre = λ b h. small_mono h (omega arith); radii = λ b h. under_mono h (omega arith) }
 
 -- of n terms m are left, and with the centre and radii they are `result`
 pub record Passed (e heads : List ℕ) (s : List ℤ) (n m : ℕ) (c₀ c : List ℤ) (r₀ r : List ℕ) (result : Folded Term) : Type 0 where
@@ -108,14 +100,18 @@ pub passed_as : {e h : List ℕ} {s : List ℤ} {n m : ℕ} {c₀ c : List ℤ} 
     Passed e h s n m c₀ c r₀ r x → x ≡ y → Passed e h s n m c₀ c r₀ r y
 passed_as v e = record { is = v.is ∙ e; fewer = v.fewer; ready = v.ready; bounded = v.bounded }
 
+-- marks that a stage has room for
+pub room : (N n : ℕ) → n ≤ N → length (take n (replicate N false)) ≡ n
+room N n h = length-take-le n (replicate N false) (omega (arith, length-replicate {A = Bool} N false))
+
 -- ---- the stages of terms
 module _ (e heads : List ℕ) (s : List ℤ) (n : ℕ) where
   -- some exponent is too large, or none is
-  pub high-found : (i : ℕ) → i < n → test false (exponent_row e (get_or heads i 0)) ≡ true → any too_high (terms e heads s n) ≡ true
+  pub high-found : (i : ℕ) → i < n → high (exponent_row e (get_or heads i 0)) ≡ true → any too_high (terms e heads s n) ≡ true
   unfolding terms
   high-found i h g = any_found too_high n (term_at e heads s) i h g
 
-  pub high_none : ((i : ℕ) → i < n → test false (exponent_row e (get_or heads i 0)) ≡ false) → any too_high (terms e heads s n) ≡ false
+  pub high_none : ((i : ℕ) → i < n → high (exponent_row e (get_or heads i 0)) ≡ false) → any too_high (terms e heads s n) ≡ false
   unfolding terms
   high_none g = any_none too_high n (term_at e heads s) g
 
@@ -125,7 +121,7 @@ all-low k ts h =
     sym (ap₂ (λ (c : Core) (l : List Term). record { core = c; kept = l }) (none_folded too_high fold_term k low) (all_pass too_high low))
 
 module _ (e heads : List ℕ) (s : List ℤ) (n : ℕ) (k : Core) where
-  pub high-parted : (gone : List Bool) → ((i : ℕ) → i < n → at gone i ≡ test false (exponent_row e (get_or heads i 0))) →
+  pub high-parted : (gone : List Bool) → ((i : ℕ) → i < n → at gone i ≡ high (exponent_row e (get_or heads i 0))) →
       parted fold_term (term_at e heads s) n gone k ≡ without_high k (terms e heads s n)
   unfolding terms
   high-parted gone h = sym (those-parted too_high fold_term (term_at e heads s) n k gone h)

@@ -14,6 +14,8 @@ ghost use Rattle.fold.specs.Folding.{Under, core_of};
 ghost use Rattle.select.specs.Selected.{parted};
 ghost use Rattle.select.specs.Stage.{term_at, without_high, Ready, Passed, GeneratorsPassed};
 
+use fold::Core;
+
 mod marks;
 mod smallest;
 
@@ -40,21 +42,18 @@ pub fn fold_high(
     ensures later_places { LeftOpen (drop result.count heads.old) (drop result.count heads.new) }
     ensures later_rows { LeftOpen (drop (result.count * 6) s.old) (drop (result.count * 6) s.new) }
 {
-    if !marks::any_high(e, heads, n) {
+    if !marks::any_high(e, &heads[..n]) {
         return Kept {
             count: n,
             centre,
             radii,
         };
     }
+    let core = Core { centre, radii };
     if n <= 161 {
-        let mut gone = [false; 161];
-        let mut even = [false; 161];
-        return fold_high_in(e, heads, s, n, &mut gone, &mut even, centre, radii);
+        return fold_high_within::<161>(e, heads, s, n, core);
     }
-    let mut gone = [false; 860];
-    let mut even = [false; 860];
-    fold_high_in(e, heads, s, n, &mut gone, &mut even, centre, radii)
+    fold_high_within::<860>(e, heads, s, n, core)
 }
 
 // The smallest terms are folded until `limit` are left.
@@ -82,20 +81,11 @@ pub fn fold_terms(
             radii,
         };
     }
+    let core = Core { centre, radii };
     if n <= 161 {
-        let mut z = [0u64; 161];
-        let mut gone = [false; 161];
-        let mut even = [false; 161];
-        return fold_terms_in(
-            e, heads, s, n, limit, weights, &mut z, &mut gone, &mut even, centre, radii,
-        );
+        return fold_terms_within::<161>(e, heads, s, n, limit, &weights, core);
     }
-    let mut z = [0u64; 860];
-    let mut gone = [false; 860];
-    let mut even = [false; 860];
-    fold_terms_in(
-        e, heads, s, n, limit, weights, &mut z, &mut gone, &mut even, centre, radii,
-    )
+    fold_terms_within::<860>(e, heads, s, n, limit, &weights, core)
 }
 
 // The smallest generators, rows of numbers without exponents, are folded until `limit` are left.
@@ -121,132 +111,104 @@ pub fn fold_generators(
             radii,
         };
     }
+    let core = Core { centre, radii };
     if n <= 161 {
-        let mut z = [0u64; 161];
-        let mut gone = [false; 161];
-        let even = [false; 161];
-        return fold_generators_in(
-            g, n, limit, weights, &mut z, &mut gone, &even, centre, radii,
-        );
+        return fold_generators_within::<161>(g, n, limit, &weights, core);
     }
-    let mut z = [0u64; 860];
-    let mut gone = [false; 860];
-    let even = [false; 860];
-    fold_generators_in(
-        g, n, limit, weights, &mut z, &mut gone, &even, centre, radii,
-    )
+    fold_generators_within::<860>(g, n, limit, &weights, core)
 }
 
-// The terms with an exponent that is too large, folded in slices that have room for n marks.
-fn fold_high_in(
+// The terms with an exponent that is too large, where there are no more than N terms.
+fn fold_high_within<const N: usize>(
     e: &[u8],
     heads: &mut [u16],
     s: &mut [i64],
     n: usize,
-    gone: &mut [bool],
-    even: &mut [bool],
-    centre: [i64; 6],
-    radii: [u64; 6],
+    core: Core,
 ) -> Kept
-    requires { Ready e.now heads.old s.old n × Small (2 ^ 61) centre × Under (2 ^ 61) radii
-        × (n ≤ length gone.old) × (n ≤ length even.old) }
-    ensures passed { Passed e.now heads.new s.new n result.count centre result.centre radii result.radii
-        (without_high (core_of centre radii) (terms e.now heads.old s.old n)) }
+    requires { Ready e.now heads.old s.old n × Small (2 ^ 61) core.centre × Under (2 ^ 61) core.radii × (n ≤ N)
+        × (N ≤ 860) }
+    ensures passed { Passed e.now heads.new s.new n result.count core.centre result.centre core.radii result.radii
+        (without_high (core_of core.centre core.radii) (terms e.now heads.old s.old n)) }
     ensures later_places { LeftOpen (drop result.count heads.old) (drop result.count heads.new) }
     ensures later_rows { LeftOpen (drop (result.count * 6) s.old) (drop (result.count * 6) s.new) }
-    ensures work_space { LeftOpen gone.old gone.new × LeftOpen even.old even.new }
 {
-    marks::mark(e, heads, n, false, gone);
-    part_terms(e, heads, s, n, gone, even, centre, radii)
+    let mut marks = [false; N];
+    let gone = &mut marks[..n];
+    marks::mark_high(e, heads, gone);
+    part_terms(e, heads, s, gone, core)
 }
 
-// The smallest terms, folded in slices that have room for n sizes and marks.
-fn fold_terms_in(
+// The smallest terms, where there are no more than N.
+fn fold_terms_within<const N: usize>(
     e: &[u8],
     heads: &mut [u16],
     s: &mut [i64],
     n: usize,
     limit: usize,
-    weights: [u64; 6],
-    z: &mut [u64],
-    gone: &mut [bool],
-    even: &mut [bool],
-    centre: [i64; 6],
-    radii: [u64; 6],
+    weights: &[u64; 6],
+    core: Core,
 ) -> Kept
-    requires { Ready e.now heads.old s.old n × Under 1000 weights × Small (2 ^ 61) centre × Under (2 ^ 61) radii
-        × (limit ≤ n) × (n ≤ length z.old) × (n ≤ length gone.old) × (n ≤ length even.old) }
-    ensures passed { Passed e.now heads.new s.new n result.count centre result.centre radii result.radii
-        (fold_until (term_size weights) fold_term limit (core_of centre radii) (terms e.now heads.old s.old n))
+    requires { Ready e.now heads.old s.old n × Under 1000 weights.now × Small (2 ^ 61) core.centre
+        × Under (2 ^ 61) core.radii × (limit ≤ n) × (n ≤ N) × (N ≤ 860) }
+    ensures passed { Passed e.now heads.new s.new n result.count core.centre result.centre core.radii result.radii
+        (fold_until (term_size weights.now) fold_term limit (core_of core.centre core.radii)
+        (terms e.now heads.old s.old n))
         × (result.count ≤ limit) }
     ensures later_places { LeftOpen (drop result.count heads.old) (drop result.count heads.new) }
     ensures later_rows { LeftOpen (drop (result.count * 6) s.old) (drop (result.count * 6) s.new) }
-    ensures work_space { LeftOpen z.old z.new × LeftOpen gone.old gone.new
-        × LeftOpen even.old even.new }
 {
-    smallest::mark_smallest(s, n, limit, weights, z, gone);
-    part_terms(e, heads, s, n, gone, even, centre, radii)
+    let mut sizes = [0; N];
+    let mut marks = [false; N];
+    let gone = &mut marks[..n];
+    smallest::mark_smallest(s, limit, weights, &mut sizes[..n], gone);
+    part_terms(e, heads, s, gone, core)
 }
 
-// The smallest generators, folded in slices that have room for n sizes and marks. `even` marks none.
-fn fold_generators_in(
+// The smallest generators, where there are no more than N.
+fn fold_generators_within<const N: usize>(
     g: &mut [i64],
     n: usize,
     limit: usize,
-    weights: [u64; 6],
-    z: &mut [u64],
-    gone: &mut [bool],
-    even: &[bool],
-    centre: [i64; 6],
-    radii: [u64; 6],
+    weights: &[u64; 6],
+    core: Core,
 ) -> Kept
-    requires { (n ≤ 860) × (n * 6 ≤ length g.old) × Small (2 ^ 50) g.old × Under 1000 weights
-        × Small (2 ^ 61) centre × Under (2 ^ 61) radii × (limit ≤ n) × (n ≤ length z.old) × (n ≤ length gone.old)
-        × (n ≤ length even.now) × ((k : ℕ) → at even.now k ≡ false) }
-    ensures generators_passed { GeneratorsPassed g.new n result.count centre result.centre radii result.radii
-        (fold_until (size weights) fold_generator limit (core_of centre radii) (tab n (number_row g.old)))
+    requires { (n ≤ 860) × (n * 6 ≤ length g.old) × Small (2 ^ 50) g.old × Under 1000 weights.now
+        × Small (2 ^ 61) core.centre × Under (2 ^ 61) core.radii × (limit ≤ n) × (n ≤ N) × (N ≤ 860) }
+    ensures generators_passed { GeneratorsPassed g.new n result.count core.centre result.centre core.radii result.radii
+        (fold_until (size weights.now) fold_generator limit (core_of core.centre core.radii)
+        (tab n (number_row g.old)))
         × (result.count ≤ limit) }
     ensures later_rows { LeftOpen (drop (result.count * 6) g.old) (drop (result.count * 6) g.new) }
-    ensures work_space { LeftOpen z.old z.new × LeftOpen gone.old gone.new }
 {
-    smallest::mark_smallest(g, n, limit, weights, z, gone);
-    let core = fold::fold_rows(g, n, gone, even, centre, radii);
-    let count = fold::keep_rows(g, n, gone);
-    let moved = core.centre;
-    let wider = core.radii;
+    let mut sizes = [0; N];
+    let mut marks = [false; N];
+    let gone = &mut marks[..n];
+    smallest::mark_smallest(g, limit, weights, &mut sizes[..n], gone);
+    let Core { centre, radii } = fold::fold_rows(g, gone, |_| false, core);
+    let count = fold::keep_rows(g, gone);
     Kept {
         count,
-        centre: moved,
-        radii: wider,
+        centre,
+        radii,
     }
 }
 
-// Those of the first n terms that `gone` marks are folded, and the others kept, in their order. `even` is for the marks of the even ones.
-fn part_terms(
-    e: &[u8],
-    heads: &mut [u16],
-    s: &mut [i64],
-    n: usize,
-    gone: &[bool],
-    even: &mut [bool],
-    centre: [i64; 6],
-    radii: [u64; 6],
-) -> Kept
-    requires { Ready e.now heads.old s.old n × Small (2 ^ 61) centre × Under (2 ^ 61) radii
-        × (n ≤ length gone.now) × (n ≤ length even.old) }
-    ensures passed { Passed e.now heads.new s.new n result.count centre result.centre radii result.radii
-        (parted fold_term (term_at e.now heads.old s.old) n gone.now (core_of centre radii)) }
-    ensures work_space { LeftOpen even.old even.new }
+// Those of the first terms that `gone` marks are folded, and the others kept, in their order.
+fn part_terms(e: &[u8], heads: &mut [u16], s: &mut [i64], gone: &[bool], core: Core) -> Kept
+    requires { Ready e.now heads.old s.old (length gone.now) × Small (2 ^ 61) core.centre × Under (2 ^ 61) core.radii }
+    ensures { Passed e.now heads.new s.new (length gone.now) result.count core.centre result.centre core.radii result.radii
+        (parted fold_term (term_at e.now heads.old s.old) (length gone.now) gone.now
+        (core_of core.centre core.radii)) }
 {
-    marks::mark(e, heads, n, true, even);
-    let core = fold::fold_rows(s, n, gone, even, centre, radii);
-    let count = fold::keep_rows(s, n, gone);
-    fold::keep_places(heads, n, gone);
-    let moved = core.centre;
-    let wider = core.radii;
+    let places = &heads[..];
+    let even = |k| fold::all_even(e, usize::from(places[k]));
+    let Core { centre, radii } = fold::fold_rows(s, gone, even, core);
+    let count = fold::keep_rows(s, gone);
+    fold::keep_places(heads, gone);
     Kept {
         count,
-        centre: moved,
-        radii: wider,
+        centre,
+        radii,
     }
 }

@@ -1,55 +1,41 @@
-// The smallest of n rows: a bar on their sizes, found by bisection, and the marks of the rows that lie below it. Sizes and marks are
+// The smallest of rows: a bar on their sizes, found by bisection, and the marks of the rows that lie below it. Sizes and marks are
 // written into slices that the caller lends.
-ghost use Rattle.std.specs.Prelude.{◌≡◌, ℕ, ◌+◌, ◌*◌, ◌^◌, ◌≤◌, ◌<◌, ltb, length, drop};
+ghost use Rattle.std.specs.Prelude.{◌≡◌, ℕ, ◌+◌, ◌*◌, ◌^◌, ◌≤◌, ◌<◌, ltb, length};
 ghost use Rattle.model.specs.Motion.{places};
 ghost use Rattle.model.specs.Finish.{size};
 ghost use Rattle.model.proofs.Select.{bar, left};
 ghost use Rattle.model.proofs.Level.{level, Bar};
-ghost use Rattle.rows.specs.WorkSpace.{LeftOpen};
 ghost use Rattle.rows.specs.Rows.{number_row, Small};
 ghost use Rattle.fold.specs.Folding.{Under};
 ghost use Rattle.select.specs.Bar.{size_at, Marked};
 ghost use Rattle.select.specs.Selected.{Selected};
 
-// The marks of the smallest of the first n rows, of equals the later, of which all but `limit` are marked. `z` is for the sizes.
-pub fn mark_smallest(
-    s: &[i64],
-    n: usize,
-    limit: usize,
-    weights: [u64; 6],
-    z: &mut [u64],
-    out: &mut [bool],
-)
-    requires { (limit ≤ n) × (n * 6 ≤ length s.now) × (n ≤ length z.old) × (n ≤ length out.old) × Small (2 ^ 50) s.now
-        × Under 1000 weights }
-    ensures selected { Selected (λ k. size weights (number_row s.now k)) limit n out.new }
-    ensures later_marks { LeftOpen (drop n out.old) (drop n out.new) }
-    ensures work_space { LeftOpen z.old z.new }
+use core::cmp::Ordering;
+
+// The marks of the smallest of the first rows, of equals the later, of which all but `limit` are marked. `z` is for the sizes.
+pub fn mark_smallest(s: &[i64], limit: usize, weights: &[u64; 6], z: &mut [u64], gone: &mut [bool])
+    requires { (limit ≤ length gone.old) × (length gone.old * 6 ≤ length s.now) × (length z.old ≡ length gone.old)
+        × Small (2 ^ 50) s.now × Under 1000 weights.now }
+    ensures { Selected (λ k. size weights.now (number_row s.now k)) limit (length gone.old) gone.new }
 {
-    sizes(s, n, weights, z);
-    let height = find_bar(z, n, limit, largest(z, n) + 1);
-    let above = count_from(z, n, height + 1);
-    mark_below(z, n, height, limit - above, out);
+    sizes(s, weights, z);
+    let height = find_bar(z, limit, largest(z) + 1);
+    let above = count_from(z, height + 1);
+    mark_below(z, height, limit - above, gone);
 }
 
-// The marks of those of the first n sizes that lie below the bar, and of those at the bar after the first `quota`.
-fn mark_below(z: &[u64], n: usize, height: u64, quota: usize, out: &mut [bool])
-    requires { (n ≤ length z.now) × (n ≤ length out.old) }
-    ensures marked { Marked z.now height quota n out.new }
-    ensures later_marks { LeftOpen (drop n out.old) (drop n out.new) }
+// The marks of the sizes that lie below the bar, and of those at the bar after the first `quota`.
+fn mark_below(z: &[u64], height: u64, quota: usize, gone: &mut [bool])
+    requires { length z.now ≡ length gone.old }
+    ensures { Marked z.now height quota (length gone.old) gone.new }
 {
     let mut rest = quota;
-    let mut k = 0;
-    while k < n {
-        let size = z[k];
-        if is_below(size, height, rest) {
-            out[k] = true;
-            k += 1;
-        } else {
-            rest = quota_after(size, height, rest);
-            out[k] = false;
-            k += 1;
+    for (k, gone) in gone.iter_mut().enumerate() {
+        *gone = is_below(z[k], height, rest);
+        if *gone {
+            continue;
         }
+        rest = quota_after(z[k], height, rest);
     }
 }
 
@@ -69,79 +55,57 @@ fn quota_after(size: u64, height: u64, quota: usize) -> usize
     ensures { result ≡ left height quota size }
 {
     if size == height {
-        if quota == 0 { 0 } else { quota - 1 }
+        quota.saturating_sub(1)
     } else {
         quota
     }
 }
 
-// A bar for a limit: at least `limit` of the first n sizes reach it, and at most `limit` exceed it. All are below `top`.
-fn find_bar(z: &[u64], n: usize, limit: usize, top: u64) -> u64
-    requires { (n ≤ length z.now) × (limit ≤ n) × (0 < top) × (top ≤ 2 ^ 63) × ((k : ℕ) → k < n → size_at z.now k < top) }
-    ensures { Bar (size_at z.now) limit (places n) result × (result < top) }
+// A bar for a limit: at least `limit` of the sizes reach it, and at most `limit` exceed it. All are below `top`.
+fn find_bar(z: &[u64], limit: usize, top: u64) -> u64
+    requires { (limit ≤ length z.now) × (0 < top) × (top ≤ 2 ^ 63) × ((k : ℕ) → k < length z.now → size_at z.now k < top) }
+    ensures { Bar (size_at z.now) limit (places (length z.now)) result × (result < top) }
 {
     let mut low = 0;
     let mut high = top;
     while low + 1 < high {
         let middle = low + (high - low) / 2;
-        let k = count_from(z, n, middle);
-        // Exactly `limit` reach it, and so no more exceed it.
-        if k == limit {
-            return middle;
-        }
-        if limit <= k {
-            low = middle;
-        } else {
-            high = middle;
+        match count_from(z, middle).cmp(&limit) {
+            // Exactly `limit` reach it, and so no more exceed it.
+            Ordering::Equal => return middle,
+            Ordering::Greater => low = middle,
+            Ordering::Less => high = middle,
         }
     }
     low
 }
 
-// How many of the first n sizes reach a bar.
-fn count_from(z: &[u64], n: usize, height: u64) -> usize
-    requires { n ≤ length z.now }
-    ensures { result ≡ level (size_at z.now) height (places n) }
+// How many of the sizes reach a bar.
+fn count_from(z: &[u64], height: u64) -> usize
+    ensures { result ≡ level (size_at z.now) height (places (length z.now)) }
 {
-    let mut count = 0;
-    let mut k = 0;
-    while k < n {
-        if height <= z[k] {
-            count += 1;
-            k += 1;
-        } else {
-            k += 1;
-        }
-    }
-    count
+    z.iter().filter(|size| height <= **size).count()
 }
 
-// The largest of the first n sizes, or 0.
-fn largest(z: &[u64], n: usize) -> u64
-    requires { (n ≤ length z.now) × ((k : ℕ) → k < n → size_at z.now k ≤ 6000 * 2 ^ 50) }
-    ensures { ((k : ℕ) → k < n → size_at z.now k ≤ result) × (result ≤ 6000 * 2 ^ 50) }
+// The largest of the sizes, or 0.
+fn largest(z: &[u64]) -> u64
+    requires { (k : ℕ) → k < length z.now → size_at z.now k ≤ 6000 * 2 ^ 50 }
+    ensures { ((k : ℕ) → k < length z.now → size_at z.now k ≤ result) × (result ≤ 6000 * 2 ^ 50) }
 {
-    let mut most: u64 = 0;
-    let mut k = 0;
-    while k < n {
-        if most < z[k] {
-            most = z[k];
-            k += 1;
-        } else {
-            k += 1;
-        }
+    let mut most = 0;
+    for size in z {
+        most = most.max(*size);
     }
     most
 }
 
-// The sizes of the first n rows.
-fn sizes(s: &[i64], n: usize, weights: [u64; 6], z: &mut [u64])
-    requires { (n * 6 ≤ length s.now) × (n ≤ length z.old) × Small (2 ^ 50) s.now × Under 1000 weights }
-    ensures by_index { ((k : ℕ) → k < n → size_at z.new k ≡ size weights (number_row s.now k))
-        × ((k : ℕ) → k < n → size_at z.new k ≤ 6000 * 2 ^ 50) }
-    ensures later_sizes { LeftOpen (drop n z.old) (drop n z.new) }
+// The sizes of the first rows.
+fn sizes(s: &[i64], weights: &[u64; 6], z: &mut [u64])
+    requires { (length z.old * 6 ≤ length s.now) × Small (2 ^ 50) s.now × Under 1000 weights.now }
+    ensures { ((k : ℕ) → k < length z.old → size_at z.new k ≡ size weights.now (number_row s.now k))
+        × ((k : ℕ) → k < length z.old → size_at z.new k ≤ 6000 * 2 ^ 50) }
 {
-    for k in 0..n {
-        z[k] = fold::row_size(s, k, weights);
+    for (k, size) in z.iter_mut().enumerate() {
+        *size = fold::row_size(rows::number_row(s, k), weights);
     }
 }

@@ -1,4 +1,4 @@
--- Document 01's number and values for each case of an answer.
+-- Document 01's cause and values for each case of an answer.
 use Rattle.std.specs.Prelude.{[], Bool, true, false, ℕ, length}
 use Rattle.whole.specs.Tab.{tab}
 use Rattle.model.specs.Set.{at}
@@ -6,6 +6,8 @@ use Rattle.model.specs.Operations.{Box}
 use Rattle.model.specs.Field as Model
 use Rattle.model.specs.Field.{inside, verdict, refused, skipped}
 use Rattle.model.specs.Run as Run
+use Rattle.zonotope.specs.declared.Cause.{Cause}
+use Rattle.zonotope.specs.Answer.{cause_of}
 use Rattle.states.specs.declared.Outcome.{Outcome}
 use Rattle.states.specs.declared.Outcome.TheVariants.{Inside, Safe, Unknown, Refused, Skipped, Unfit}
 use Rattle.states.specs.declared.Answer.{Answer}
@@ -15,7 +17,7 @@ abbrev pub outcome_of : Model.Outcome → Outcome
 outcome_of (inside b) = Inside
 outcome_of (verdict true) = Safe
 outcome_of (verdict false) = Unknown
-outcome_of (refused n place) = Refused (record { number = n; place = place })
+outcome_of (refused n place) = Refused (record { cause = cause_of n; place = place })
 outcome_of skipped = Skipped
 
 -- the box that it answers; other outcomes have none
@@ -44,8 +46,8 @@ unfoldable pub answer_of : Run.Answer → ℕ → Answer
 answer_of a bytes = parts a.field bytes (outcome_of a.outcome) (box_of a.outcome)
 
 -- a call that is refused takes no byte
-unfoldable pub unfit_answer : ℕ → ℕ → Answer
-unfit_answer field n = parts field 0 (Unfit n) no_box
+unfoldable pub unfit_answer : ℕ → Cause → Answer
+unfit_answer field c = parts field 0 (Unfit c) no_box
 
 -- whether an outcome accepts its field
 abbrev pub accepts : Outcome → Bool
@@ -54,4 +56,4 @@ accepts Safe = true
 accepts Unknown = true
 accepts (Refused r) = false
 accepts Skipped = false
-accepts (Unfit n) = false
+accepts (Unfit c) = false

@@ -20,10 +20,9 @@ use Rattle.model.proofs.Shape.{Valid}
 use Rattle.model.proofs.Held.{gaining_held}
 use Rattle.model.proofs.Ranged.{nothing-gained}
 use Rattle.zonotope.specs.declared.PolyZonotope.{PolyZonotope}
-use Rattle.zonotope.specs.declared.Examined.TheVariants.{Accepted}
 use Rattle.zonotope.specs.Record.{view, given}
 use Rattle.zonotope.specs.Valid.{passed}
-use Rattle.zonotope.specs.Answer.{or_else}
+use Rattle.zonotope.specs.Answer.{Accepted, or_else}
 use Rattle.answers.specs.declared.Changed.{Changed}
 use Rattle.answers.specs.Answer.{answered, of_result, result-narrow}
 use Rattle.answers.specs.Order.{neither}

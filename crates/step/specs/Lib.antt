@@ -2,7 +2,7 @@
 --     Answer    the refusals, and what the work slices hold afterwards
 --     Order     a refusal by its parts: room, the set, the call's own causes, the result
 --     Left      what a work slice is left with
---     Called    what a call answers and leaves, from what is asked before it is worked out
+--     Called    what a call results in and leaves
 pub mod Answer
 pub mod Order
 pub mod Left

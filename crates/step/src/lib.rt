@@ -13,10 +13,10 @@ ghost use Rattle.answers.specs.Answer.{answered};
 ghost use Rattle.answers.specs.Accepted.{AcceptedRecord};
 ghost use Rattle.stepping.specs.Work.{work_numbers, work_exponents};
 ghost use Rattle.step.specs.Answer.{refusal_of, ranged_refusal_of, left_in};
-ghost use Rattle.step.specs.Called.{WorkedOut};
+ghost use Rattle.step.specs.Called.{Called, WorkedOut};
 
 use answers::Changed;
-use zonotope::PolyZonotope;
+use zonotope::{Cause, PolyZonotope};
 
 mod refusals;
 
@@ -46,13 +46,7 @@ pub fn step(
     ensures exponents { e.new ≡ left_in (refusal_of w.old e.old
         (step_of m n c.now a.now q.now) (given s)) work_exponents 0 e.old }
 {
-    let own = stepping::arguments::of_step(s.dimension, m, n, c, a, q);
-    let o = refusals::before_stepping(s, own, w.len(), e.len());
-    if answers::is_refused(o) {
-        return Changed { outcome: o, set: s };
-    }
-    let none = [0u64; 6];
-    worked_out(s, m, n, c, a, q, &none, w, e)
+    answers::answer(s, stepped(s, m, n, c, a, q, w, e))
 }
 
 // The set's image under the step with half-widths beside its entries: da beside A's and dq beside Q's, each as its entries stand. It holds
@@ -80,11 +74,47 @@ pub fn ranged_step(
         (step_of m n c.now a.now q.now) (widths_of da.now dq.now) (given s))
         work_exponents 0 e.old }
 {
-    let own = stepping::arguments::of_ranged_step(s.dimension, m, n, c, a, q, da, dq);
-    let o = refusals::before_stepping(s, own, w.len(), e.len());
-    if answers::is_refused(o) {
-        return Changed { outcome: o, set: s };
-    }
+    answers::answer(s, ranged_stepped(s, m, n, c, a, q, da, dq, w, e))
+}
+
+// The result of a step: what refuses it before it is worked out, then its image.
+fn stepped(
+    s: PolyZonotope,
+    m: usize,
+    n: usize,
+    c: &[i32],
+    a: &[i32],
+    q: &[i32],
+    w: &mut [i64],
+    e: &mut [u8],
+) -> Result<PolyZonotope, Cause>
+    ensures { Called (refusal_of w.old e.old (step_of m n c.now a.now q.now) (given s))
+        (step standard_weights (step_of m n c.now a.now q.now) (view s)) result w.old w.new e.old e.new }
+{
+    refusals::of_room_and_set(s, w.len(), e.len())?;
+    stepping::arguments::of_step(s.dimension, m, n, c, a, q)?;
+    worked_out(s, m, n, c, a, q, &[0; 6], w, e)
+}
+
+// The same of a ranged step.
+fn ranged_stepped(
+    s: PolyZonotope,
+    m: usize,
+    n: usize,
+    c: &[i32],
+    a: &[i32],
+    q: &[i32],
+    da: &[u32],
+    dq: &[u32],
+    w: &mut [i64],
+    e: &mut [u8],
+) -> Result<PolyZonotope, Cause>
+    ensures { Called (ranged_refusal_of w.old e.old (step_of m n c.now a.now q.now) (widths_of da.now dq.now) (given s))
+        (ranged_step standard_weights (step_of m n c.now a.now q.now) (widths_of da.now dq.now) (view s)) result
+        w.old w.new e.old e.new }
+{
+    refusals::of_room_and_set(s, w.len(), e.len())?;
+    stepping::arguments::of_ranged_step(s.dimension, m, n, c, a, q, da, dq)?;
     let gains = widths::gains(m, n, da, dq, s);
     worked_out(s, m, n, c, a, q, &gains, w, e)
 }
@@ -101,15 +131,15 @@ fn worked_out(
     gains: &[u64; 6],
     w: &mut [i64],
     e: &mut [u8],
-) -> Changed
+) -> Result<PolyZonotope, Cause>
     requires { AcceptedRecord s × StepAccepted (step_of m n c.now a.now q.now) × Gaining m gains.now
         × (work_numbers ≤ length w.old) × (work_exponents ≤ length e.old) }
-    ensures { WorkedOut s (gaining_step standard_weights (λ (i : ℕ). get_or gains.now i 0)
+    ensures { WorkedOut (gaining_step standard_weights (λ (i : ℕ). get_or gains.now i 0)
         (step_of m n c.now a.now q.now) (view s)) result
         w.old w.new e.old e.new }
 {
-    let f = stepping::image_finished(s, m, n, c, a, q, gains, w, e);
+    let finished = stepping::image_finished(s, m, n, c, a, q, gains, w, e);
     stepping::work::clear_numbers(w);
     stepping::work::clear_exponents(e);
-    answers::settle(s, f)
+    finished
 }

@@ -1,5 +1,5 @@
 -- The causes that refuse a step's own numbers and its half-widths, by the parts in which they are asked, and what it says that none holds.
-use Rattle.std.specs.Prelude.{◌≡◌, false, cond, ◌||◌, List, [], ◌∷◌, ◌++◌, ℕ, ◌*◌, ◌≤◌, ltb, eqb, ℤ, length}
+use Rattle.std.specs.Prelude.{◌≡◌, false, cond, ◌||◌, List, [], ◌∷◌, ◌++◌, ℕ, ◌*◌, ◌≤◌, ltb, eqb, ℤ, length, Ok, ⊤}
 use Rattle.std.proofs.Common.{sym, ◌∙◌, arith, ltb-false}
 use Rattle.std.proofs.Math.Path.{ap}
 use Rattle.std.proofs.Math.Bool.{or_assoc}
@@ -13,7 +13,8 @@ use Rattle.model.specs.Field.{bad_dimension, beyond, differs, bad_step_range, be
 use Rattle.model.specs.Run.{Cause, ◌if◌, first_of}
 use Rattle.model.specs.Library.{bad_step_counts, bad_step_lengths, bad_width_lengths, of_step, of_ranged_step}
 use Rattle.zonotope.specs.Valid.{passed}
-use Rattle.zonotope.specs.Answer.{or_else, first_append}
+use Rattle.zonotope.specs.Answer.{Examined, examined, or_else, first_append}
+use Rattle.answers.specs.Answer.{asked-next}
 use Rattle.answers.specs.Order.{neither}
 use Rattle.answers.specs.Accepted.{equal}
 use Rattle.image.specs.StepAccepted.{StepAccepted, shaped}
@@ -62,6 +63,20 @@ pub lengths_apart : (p : Step) → bad_step_lengths p
 lengths_apart p =
     or_assoc (differs (length p.constant) p.rows) (differs (length p.linear) (p.rows * p.columns))
     (differs (length p.quadratic) (p.rows * p.columns * p.columns))
+
+-- ---- what is asked of a ranged step where its shape passes: the lengths of its half-widths, its numbers, the half-widths
+module _ (p : Step) (dimension : ℕ) (d : Widths) {u : ⊤} (shaped_well : Ok u ≡ examined (first_of (of_shape p))) where
+  pub after-shape : {r : Examined} → r ≡ examined (after_shape p d dimension) → r ≡ examined (first_of (of_ranged_step p d dimension))
+  after-shape h =
+      asked-next (first_of (of_shape p)) (after_shape p d dimension) shaped_well h ∙ ap examined (sym (ranged-parts p dimension d))
+
+  module _ (long : bad_width_lengths p d ≡ false) where
+    pub after-lengths : {r : Examined} → r ≡ examined (after_lengths p d dimension) → r ≡ examined (first_of (of_ranged_step p d dimension))
+    after-lengths h = after-shape (rw long h)
+
+    pub after-numbers : {v : ⊤} → Ok v ≡ examined (first_of (numbers_in p dimension)) → {r : Examined}
+        → r ≡ examined (first_of (of_widths p d)) → r ≡ examined (first_of (of_ranged_step p d dimension))
+    after-numbers e h = after-lengths (asked-next (first_of (numbers_in p dimension)) (first_of (of_widths p d)) e h)
 
 -- ---- what it says that a cause doesn't hold
 pub counts_in : (p : Step) → bad_step_counts p ≡ false → (p.rows ≤ 6) × (p.columns ≤ 6)

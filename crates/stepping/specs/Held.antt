@@ -1,5 +1,5 @@
 -- The rounded image of an accepted set in rows: a set in wide form, with numbers for which nothing overflows.
-use Rattle.std.specs.Prelude.{◌≡◌, refl, ℕ, ◌*◌, ◌^◌, ◌≤◌, length, ℤ, pos}
+use Rattle.std.specs.Prelude.{◌≡◌, refl, ℕ, ◌*◌, ◌^◌, ◌≤◌, length, ℤ, pos, Result}
 use Rattle.std.proofs.Math.Path.{sym, ap, ap₂}
 use Rattle.std.proofs.Common.{subst, ◌∙◌, arith}
 use mathlib.Core.List.{List, [], map}
@@ -28,13 +28,14 @@ use Rattle.image.specs.Gaining.{gained_image}
 use Rattle.image.specs.Imaged.{Imaged}
 use Rattle.image.specs.Remainder.{image_limit}
 use Rattle.finish.specs.declared.Unfinished.{Unfinished}
-use Rattle.finish.specs.declared.Finished.{Finished}
-use Rattle.finish.specs.Held.{PartsUnder, held, finished_as}
+use Rattle.zonotope.specs.declared.Cause.{Cause}
+use Rattle.finish.specs.Held.{PartsUnder, held}
 use Rattle.finish.specs.Wide.{wide, wide_vector}
 use Rattle.finish.specs.WideFinish.{Narrow}
+use Rattle.answers.specs.Answer.{settled}
 use Rattle.answers.specs.Accepted.{AcceptedRecord, ready}
 use Rattle.answers.specs.Finishing.{anew_under, Finishable, part, part_length, rows-part, part_small}
-use Rattle.answers.proofs.Settled.{finished_held}
+use Rattle.answers.proofs.Settled.{settled_held}
 use Rattle.rational.proofs.Sum.{All-imp}
 use Rattle.stepping.specs.Shortened.{with_terms, Shortened, shortened, finish_shortened}
 use Rattle.stepping.specs.Work.{work_numbers, work_exponents}
@@ -161,13 +162,13 @@ module _ (p : Step) (gains : List ℕ) (s : PolyZonotope) (a : AcceptedRecord s)
         }
 
     -- finished, they are the step whose remainders gain these numbers
-    pub image-step : {f : Finished} → f ≡ finished_as (finish standard_weights max_terms max_generators
+    pub image-step : {x : Result PolyZonotope Cause} → x ≡ settled (finish standard_weights max_terms max_generators
         (held (unfinished_image p s r radii) (part (rows * 12) e) (part (rows * 6) w) rows r.generators s.generators))
-        → f ≡ finished_as (gaining_step standard_weights (λ i. get_or gains i 0) p (view s))
+        → x ≡ settled (gaining_step standard_weights (λ i. get_or gains i 0) p (view s))
     unfolding gaining_step
     image-step q =
-        finished_held standard_weights max_terms max_generators short_image short-narrow image-wide q
-        ∙ ap finished_as
+        settled_held standard_weights max_terms max_generators short_image short-narrow image-wide q
+        ∙ ap settled
         (finish_shortened standard_weights max_terms max_generators image.dimension image short.terms short.rest short.joined
         (All-imp (λ t h. h.coefficients-long) image-narrow.shaped.rows) short.zero)
 

@@ -5,17 +5,16 @@
 ghost use Rattle.std.specs.Prelude.{◌≡◌, ℕ, ◌≤◌, pos, length, get_or};
 ghost use Rattle.model.specs.Limits.{standard_weights};
 ghost use Rattle.model.specs.Ranged.{gaining_step};
-ghost use Rattle.zonotope.specs.Record.{anew, view};
+ghost use Rattle.zonotope.specs.Record.{view};
 ghost use Rattle.raw.specs.Append.{KeptFrom};
 ghost use Rattle.image.specs.StepAccepted.{StepAccepted, step_of};
 ghost use Rattle.image.specs.Gaining.{Gaining};
-ghost use Rattle.finish.specs.Held.{finished_as};
+ghost use Rattle.answers.specs.Answer.{settled};
 ghost use Rattle.answers.specs.Accepted.{AcceptedRecord};
 ghost use Rattle.stepping.specs.Work.{work_numbers, work_exponents};
 
-use finish::{Finished, Unfinished};
-use image::Image;
-use zonotope::{PolyZonotope, WideRadii};
+use finish::Unfinished;
+use zonotope::{Cause, PolyZonotope};
 
 pub mod arguments;
 pub mod work;
@@ -36,10 +35,10 @@ pub fn image_finished(
     gains: &[u64; 6],
     w: &mut [i64],
     e: &mut [u8],
-) -> Finished
+) -> Result<PolyZonotope, Cause>
     requires { AcceptedRecord s × StepAccepted (step_of m n c.now a.now q.now) × Gaining m gains.now
         × (work_numbers ≤ length w.old) × (work_exponents ≤ length e.old) }
-    ensures value { result ≡ finished_as (gaining_step standard_weights (λ (i : ℕ). get_or gains.now i 0)
+    ensures value { result ≡ settled (gaining_step standard_weights (λ (i : ℕ). get_or gains.now i 0)
         (step_of m n c.now a.now q.now) (view s)) }
     ensures numbers { KeptFrom (pos 0) work_numbers w.old w.new }
     ensures exponents { KeptFrom 0 work_exponents e.old e.new }
@@ -48,13 +47,12 @@ pub fn image_finished(
     let rows = image.rows;
     let identifiers = s.identifiers;
     let centre = image.centre;
-    let radii = radii_of(image);
     let u = Unfinished {
         dimension: m,
         factors: s.factors,
         identifiers,
         centre,
-        radii,
+        radii: zonotope::parts::anew(image.carried, image.rounded),
     };
     let mut g = image.generators;
     answers::finishing::finish_rows(
@@ -67,13 +65,4 @@ pub fn image_finished(
         zonotope::MAX_TERMS,
         zonotope::MAX_GENERATORS,
     )
-}
-
-// The radii of an image before it is finished.
-fn radii_of(image: Image) -> WideRadii
-    ensures { result ≡ anew image.carried image.rounded }
-{
-    let carried = image.carried;
-    let rounded = image.rounded;
-    zonotope::parts::anew(carried, rounded)
 }

@@ -7,9 +7,7 @@ pub fn clear_numbers(w: &mut [i64])
     requires { work_numbers ≤ length w.old }
     ensures { w.new ≡ replicate work_numbers (pos 0) ++ drop work_numbers w.old }
 {
-    for i in 0..crate::WORK_NUMBERS {
-        w[i] = 0;
-    }
+    w[..crate::WORK_NUMBERS].fill(0);
 }
 
 // The first 10,320 exponents are made 0.
@@ -17,7 +15,5 @@ pub fn clear_exponents(e: &mut [u8])
     requires { work_exponents ≤ length e.old }
     ensures { e.new ≡ replicate work_exponents 0 ++ drop work_exponents e.old }
 {
-    for i in 0..crate::WORK_EXPONENTS {
-        e[i] = 0;
-    }
+    e[..crate::WORK_EXPONENTS].fill(0);
 }

@@ -5,10 +5,10 @@ use mathlib.Core.Bool.{Bool, true, false, cond, true≢false}
 use Prim.Native.Nat.{ℕ, zero, suc, ◌+◌, ◌-◌, ◌≤◌, ◌<◌}
 use native.Mathlib.Decide.{dec_lt}
 use native.Mathlib.Omega.{arith}
-use lib.ListN.{length, drop, length-drop}
-use lib.Seq.{drop-drop}
+use lib.ListN.{length, take, drop, length-drop}
+use lib.Seq.{drop-drop, take_all}
 use Rattle.text.specs.Appended.{Appended, both, named, none_put}
-use Rattle.streams.specs.Machine.{Turns, Machine, no_turn, then, can_turn, many_turns, fed}
+use Rattle.streams.specs.Machine.{Turns, Machine, ready, no_turn, then, can_turn, many_turns, fed}
 use Rattle.streams.specs.Laws.{Lawful}
 use Rattle.streams.specs.Made.{Made}
 use Rattle.streams.proofs.Ready.{ready_on, ready_room}
@@ -30,8 +30,7 @@ module _ {P : Type 0} where
 tight : {k : ℕ} {a b : List ℕ} {i j : ℕ} {l : List ℕ} → Appended k a b i j l → Appended j a b i j l
 tight x = record { ends = x.ends; short = omega (arith, x.ends); text = x.text; rest = x.rest }
 
-module _ {P : Type 0} {m : Machine P} {Reached : P → Type 0} {remaining : P → List ℕ → List ℕ} (law : Lawful m Reached remaining)
-    (ended : Bool) (room : ℕ) (from : P) (rest before : List ℕ) where
+module _ {P : Type 0} (m : Machine P) (Reached : P → Type 0) (ended : Bool) (room : ℕ) (from : P) (rest before : List ℕ) where
   -- after some turns from `from`, with `rest` and a slice of `room` bytes, which was `before` and is `after`
   pub record Underway (p : P) (used written : ℕ) (after : List ℕ) : Type 0 where
     pub reached : Reached p
@@ -45,7 +44,36 @@ module _ {P : Type 0} {m : Machine P} {Reached : P → Type 0} {remaining : P �
     pub same : fed m ended room from rest
         ≡ then (record { progress = p; used = used; text = text }) (many_turns m later ended (room - written) p (drop used rest))
 
-  pub underway_begins : Reached from → Underway from 0 0 before
+  -- what the loop's measure is: no turn can follow the last line, else one more than bytes are left
+  abbrev pub turns_left : P → ℕ → ℕ
+  turns_left p used = cond (m.done p) 0 (suc (length rest - used))
+
+-- the part of a slice from a place on
+part-from : (used : ℕ) (rest : List ℕ) → take (length rest - used) (drop used rest) ≡ drop used rest
+part-from used rest = take_all (length rest - used) (drop used rest) (omega (arith, length-drop used rest))
+
+-- a turn with that part
+pub from-part : {P : Type 0} (turn : List ℕ → Turns P) (rest : List ℕ) (used : ℕ) {most : ℕ} {before after : List ℕ} {at : ℕ} {q : P} {v w : ℕ}
+    → Made most (turn (take (length rest - used) (drop used rest))) before after at q v w
+    → Made most (turn (drop used rest)) before after at q v w
+from-part turn rest used {most} {before} {after} {at} {q} {v} {w} d =
+    subst (λ l. Made most (turn l) before after at q v w) (part-from used rest) d
+
+-- whether another turn can be made, as the loop asks it
+pub ready-here : {P : Type 0} (m : Machine P) (p : P) {longest : ℕ} {done : Bool} → done ≡ m.done p → longest ≡ m.longest
+    → (ended : Bool) (rest : List ℕ) (used written n room : ℕ) {b x : Bool}
+    → b ≡ ready longest done ended (n - written) (take (length rest - used) (drop used rest)) → n ≡ room → b ≡ x
+    → can_turn m ended (room - written) p (drop used rest) ≡ x
+ready-here m p {longest} {done} d w ended rest used written n room e k x =
+    ap₂ (λ a b. ready a b ended (room - written) (drop used rest)) (sym w) (sym d)
+    ∙ sym (e ∙ ap₂ (λ k l. ready longest done ended (k - written) l) k (part-from used rest)) ∙ x
+
+module _ {P : Type 0} {m : Machine P} {Reached : P → Type 0} {remaining : P → List ℕ → List ℕ} (law : Lawful m Reached remaining)
+    (ended : Bool) (room : ℕ) (from : P) (rest before : List ℕ) where
+  abbrev Here : P → ℕ → ℕ → List ℕ → Type 0
+  Here = Underway m Reached ended room from rest before
+
+  pub underway_begins : Reached from → Here from 0 0 before
   unfolding fed
   underway_begins r = record {
     reached = r;
@@ -59,11 +87,7 @@ module _ {P : Type 0} {m : Machine P} {Reached : P → Type 0} {remaining : P �
         ∙ sym (none_then from (many_turns m (suc (length rest)) ended (room - 0) from rest));
   }
 
-  -- what the loop's measure is: no turn can follow the last line, else one more than bytes are left
-  abbrev pub turns_left : P → ℕ → ℕ
-  turns_left p used = cond (m.done p) 0 (suc (length rest - used))
-
-  module _ {p : P} {used written : ℕ} {after : List ℕ} (u : Underway p used written after) where
+  module _ {p : P} {used written : ℕ} {after : List ℕ} (u : Here p used written after) where
     abbrev sofar : Turns P
     sofar = record { progress = p; used = used; text = u.text }
 
@@ -111,10 +135,10 @@ module _ {P : Type 0} {m : Machine P} {Reached : P → Type 0} {remaining : P �
           ∙ ap₂ (λ x l. then (then sofar t) (many_turns m n ended x t.progress l)) (omega arith) (drop-drop t.used used rest)
 
       next : {after' : List ℕ} {q : P} {v w : ℕ} → Made m.longest t after after' written q v w
-          → Underway t.progress (used + t.used) w after'
+          → Here t.progress (used + t.used) w after'
       next {after'} {q} {v} {w} d = by_later u.later refl
         where
-          by_later : (n : ℕ) → u.later ≡ n → Underway t.progress (used + t.used) w after'
+          by_later : (n : ℕ) → u.later ≡ n → Here t.progress (used + t.used) w after'
           by_later zero z = absurd (omega (arith, u.enough on, u.within))
           by_later (suc n) z = record {
             reached = law.reaches p u.reached on left;
@@ -128,16 +152,16 @@ module _ {P : Type 0} {m : Machine P} {Reached : P → Type 0} {remaining : P �
           }
 
       pub underway_goes_on : {after' : List ℕ} {q : P} {v w : ℕ} → Made m.longest t after after' written q v w
-          → Underway q (used + v) w after'
+          → Here q (used + v) w after'
       underway_goes_on {after'} {q} {v} {w} d =
-          subst (λ x. Underway x (used + v) w after') (sym d.progress)
-          (subst (λ n. Underway t.progress (used + n) w after') (sym d.used) (next d))
+          subst (λ x. Here x (used + v) w after') (sym d.progress)
+          (subst (λ n. Here t.progress (used + n) w after') (sym d.used) (next d))
 
       -- the measure falls
       pub underway_falls : {after' : List ℕ} {q : P} {v w : ℕ} → Made m.longest t after after' written q v w
-          → turns_left q (used + v) < turns_left p used
+          → turns_left m Reached ended room from rest before q (used + v) < turns_left m Reached ended room from rest before p used
       underway_falls {q = q} {v} d =
-          subst (λ b. turns_left q (used + v) < cond b 0 (suc (length rest - used))) (sym on) (go (m.done q) refl (dec_lt 0 (length left)))
+          subst (λ b. turns_left m Reached ended room from rest before q (used + v) < cond b 0 (suc (length rest - used))) (sym on) (go (m.done q) refl (dec_lt 0 (length left)))
         where
           go : (b : Bool) → m.done q ≡ b → Dec (0 < length left) → cond b 0 (suc (length rest - (used + v))) < suc (length rest - used)
           go true z k = omega arith

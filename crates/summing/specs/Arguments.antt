@@ -15,12 +15,10 @@ use Rattle.model.specs.Run.{◌if◌, first_of}
 use Rattle.model.specs.Library.{Given, of_first, of_second, bad_next, examine}
 use Rattle.model.proofs.Tests.{any_false}
 use Rattle.zonotope.specs.declared.PolyZonotope.{PolyZonotope}
-use Rattle.zonotope.specs.declared.Examined.{Examined}
-use Rattle.zonotope.specs.declared.Examined.TheVariants.{Accepted, Refused}
 use Rattle.zonotope.specs.Record.{view, given}
 use Rattle.zonotope.specs.Shape.{Sized}
 use Rattle.zonotope.specs.Valid.{Unrefused, valid, passed}
-use Rattle.zonotope.specs.Answer.{examined, or_else, first_append}
+use Rattle.zonotope.specs.Answer.{Examined, Accepted, Refused, examined, or_else, first_append}
 use Rattle.answers.specs.Order.{or_else_assoc, in_order, neither}
 use Rattle.answers.specs.Accepted.{equal}
 use Rattle.summing.specs.Summable.{Summable}

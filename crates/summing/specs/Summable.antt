@@ -1,16 +1,15 @@
--- What is asked of two sets before they are added, and the answer for the factors of both.
-use Rattle.std.specs.Prelude.{◌≡◌, [], ◌∷◌, true, false, ℕ, ◌≤◌}
+-- What is asked of two sets before they are added, and the result by the factors of both.
+use Rattle.std.specs.Prelude.{◌≡◌, [], ◌∷◌, true, false, ℕ, ◌≤◌, Result, Err}
 use Rattle.std.proofs.Math.Option.{Option, none}
 use Rattle.model.specs.Limits.{last_fresh}
 use Rattle.model.specs.Set.{Zonotope}
 use Rattle.model.specs.Field.{too_many}
 use Rattle.model.specs.Run.{◌if◌, first_of}
 use Rattle.zonotope.specs.declared.PolyZonotope.{PolyZonotope}
-use Rattle.zonotope.specs.declared.Examined.TheVariants.{Refused}
 use Rattle.zonotope.specs.Valid.{passed}
-use Rattle.zonotope.specs.Answer.{or_else}
-use Rattle.answers.specs.declared.Changed.{Changed}
-use Rattle.answers.specs.Answer.{answered}
+use Rattle.zonotope.specs.declared.Cause.{Cause}
+use Rattle.zonotope.specs.Answer.{cause_of, or_else}
+use Rattle.answers.specs.Answer.{resulted}
 use Rattle.answers.specs.Accepted.{AcceptedRecord}
 
 -- two accepted records of one dimension
@@ -31,12 +30,11 @@ pub factors_in : (s u : Zonotope) → of_factors s u ≡ none → too_many s u �
 unfolding first_of
 factors_in s u e = (passed (too_many s u) 9 e).0
 
-module _ (s u : Zonotope) (p : Option ℕ) (x : PolyZonotope) (m : Zonotope) where
-  pub answer-many : too_many s u ≡ true → ◌≡◌ {A = Changed} (record { outcome = Refused 9; set = x })
-      (answered (or_else (of_factors s u) p) x m)
+module _ (s u : Zonotope) (p : Option ℕ) (m : Zonotope) where
+  pub result-many : too_many s u ≡ true → Err (cause_of 9) ≡ resulted (or_else (of_factors s u) p) m
   unfolding first_of
-  answer-many e = rw e
+  result-many e = rw e
 
-  pub answer_few : too_many s u ≡ false → {y : Changed} → y ≡ answered p x m → y ≡ answered (or_else (of_factors s u) p) x m
+  pub result_few : too_many s u ≡ false → {r : Result PolyZonotope Cause} → r ≡ resulted p m → r ≡ resulted (or_else (of_factors s u) p) m
   unfolding first_of
-  answer_few e h = rw e h
+  result_few e h = rw e h

@@ -1,5 +1,5 @@
 -- The sum of two accepted records, in rows: before finishing it is a set in wide form.
-use Rattle.std.specs.Prelude.{◌≡◌, refl, List, false, ℕ, ◌≤◌, ltb, length, replicate, ℤ, pos}
+use Rattle.std.specs.Prelude.{◌≡◌, refl, List, false, ℕ, ◌≤◌, ltb, length, replicate, ℤ, pos, Result}
 use Rattle.std.proofs.Common.{sym, ◌∙◌, arith, ltb-false}
 use Rattle.std.proofs.Math.Path.{ap}
 use Rattle.std.proofs.Math.ListN.{get_or}
@@ -19,13 +19,14 @@ use Rattle.align.specs.declared.Identifiers.{Identifiers}
 use Rattle.align.specs.declared.Sum.{Sum}
 use Rattle.align.specs.Sum.{Factors, Common, Space, Joined}
 use Rattle.finish.specs.declared.Unfinished.{Unfinished}
-use Rattle.finish.specs.declared.Finished.{Finished}
-use Rattle.finish.specs.Held.{held, finished_as}
+use Rattle.zonotope.specs.declared.Cause.{Cause}
+use Rattle.finish.specs.Held.{held}
 use Rattle.finish.specs.Wide.{wide}
 use Rattle.finish.specs.WideFinish.{Narrow}
+use Rattle.answers.specs.Answer.{settled}
 use Rattle.answers.specs.Accepted.{AcceptedRecord, ready}
 use Rattle.answers.specs.Finishing.{parts_under, Finishable, zeros_small}
-use Rattle.answers.proofs.Settled.{finished_held}
+use Rattle.answers.proofs.Settled.{settled_held}
 use Rattle.summing.specs.Summable.{Summable}
 use Rattle.summing.specs.Wide.{small_in, small_mono}
 
@@ -123,10 +124,10 @@ module _ (a : PolyZonotope) (h : AcceptedRecord a) (u : Zonotope) (sh : Shaped (
   unfolding joined view
   joined_finishable p q r = sum_finishable (joined (view a) u) all s j sh coordinates_few p q r
 
-  pub joined_as : {f : Finished} → f ≡ finished_as (finish standard_weights 40 24
+  pub joined_as : {r : Result PolyZonotope Cause} → r ≡ settled (finish standard_weights 40 24
       (held (unfinished_sum a.dimension all s) e c s.terms g s.generators))
-      → f ≡ finished_as (tied_sum standard_weights (view a) u)
+      → r ≡ settled (tied_sum standard_weights (view a) u)
   unfolding joined view tied_sum
   joined_as p =
-      finished_held standard_weights 40 24 (joined (view a) u)
+      settled_held standard_weights 40 24 (joined (view a) u)
       (sum-narrow (joined (view a) u) all s j sh coordinates_few) (sum-wide (joined (view a) u) all s j) p

@@ -1,5 +1,5 @@
 -- An accepted record in rows of fixed width: its rows are its set in wide form, and no number is larger than a span may be.
-use Rattle.std.specs.Prelude.{◌≡◌, ℕ, ◌/◌, ◌%◌, ◌^◌, ◌<◌, ◌≤◌, length, ℤ, pos, nat_abs}
+use Rattle.std.specs.Prelude.{◌≡◌, ℕ, ◌/◌, ◌%◌, ◌^◌, ◌<◌, ◌≤◌, length, ℤ, pos, nat_abs, Result}
 use Rattle.std.proofs.Math.Path.{refl, subst}
 use Rattle.std.proofs.Common.{sym, ap, ◌∙◌, arith}
 use mathlib.Core.List.{List, [], map}
@@ -19,15 +19,16 @@ use Rattle.zonotope.specs.Counts.{Countable, countable}
 use Rattle.rows.specs.Rows.{term_of, rows_of, Small}
 use Rattle.align.specs.Examined.{counts, terms-held, generators_held, centre_small, radii_small}
 use Rattle.finish.specs.declared.Unfinished.{Unfinished}
-use Rattle.finish.specs.declared.Finished.{Finished}
-use Rattle.finish.specs.Held.{PartsUnder, held, finished_as}
+use Rattle.zonotope.specs.declared.Cause.{Cause}
+use Rattle.finish.specs.Held.{PartsUnder, held}
 use Rattle.finish.specs.Wide.{wide_vector, wide_radii, wide_term, wide}
 use Rattle.finish.specs.WideFinish.{Narrow}
+use Rattle.answers.specs.Answer.{settled}
 use Rattle.answers.specs.Accepted.{AcceptedRecord, own_record}
 use Rattle.zonotope.proofs.ViewPack.{view_shaped}
 use Rattle.summing.specs.Summand.{for_sum}
 use Rattle.answers.specs.Finishing.{parts_under, Finishable}
-use Rattle.answers.proofs.Settled.{finished_held}
+use Rattle.answers.proofs.Settled.{settled_held}
 
 -- radii at 64 bits, and the first six numbers of each part
 abbrev pub wide_radii_of : Radii → WideRadii
@@ -156,11 +157,11 @@ module _ (s : PolyZonotope) (a : AcceptedRecord s) where
     pub finishable_parts : Finishable u s.exponents c s.terms g s.generators
     finishable_parts = rw (p, q, r) finishable
 
-    pub finished_parts : (h k : ℕ) {f : Finished}
-        → f ≡ finished_as (finish standard_weights h k (held u s.exponents c s.terms g s.generators))
-        → f ≡ finished_as (reduce standard_weights h k (view s))
+    pub finished_parts : (h k : ℕ) {r : Result PolyZonotope Cause}
+        → r ≡ settled (finish standard_weights h k (held u s.exponents c s.terms g s.generators))
+        → r ≡ settled (reduce standard_weights h k (view s))
     unfolding reduce
-    finished_parts h k e = finished_held standard_weights h k (view s) narrow held-wide (rw (p, q, r) at e)
+    finished_parts h k e = settled_held standard_weights h k (view s) narrow held-wide (rw (p, q, r) at e)
 
 -- the parts of the set without its terms and generators
 pub unfinished-parts : (s : PolyZonotope) {c : List ℤ} {r : WideRadii} → c ≡ s.centre → r ≡ wide_firsts s.radii →

@@ -3,43 +3,32 @@ ghost use Rattle.std.specs.Prelude.{◌≡◌, ℕ, ◌+◌, ◌<◌, ◌≤◌,
 ghost use Rattle.whole.specs.Tab.{tab};
 ghost use Rattle.model.specs.Operations.{disturb};
 ghost use Rattle.zonotope.specs.Record.{view, pack};
-ghost use Rattle.answers.specs.Answer.{answered, of_result};
+ghost use Rattle.answers.specs.Answer.{settled};
 ghost use Rattle.summing.specs.Disturb.{Disturbable};
 
-use answers::Changed;
 use arrays::span;
-use zonotope::{Examined, MAX_SPAN, PolyZonotope};
+use zonotope::{Cause, MAX_SPAN, PolyZonotope};
 
-// The answer for an examined set and examined radii: 10 where the result is too wide.
-pub fn disturbed(s: PolyZonotope, radii: &[u32]) -> Changed
+// An examined set disturbed by examined radii: 10 where the result is too wide.
+pub fn disturbed(s: PolyZonotope, radii: &[u32]) -> Result<PolyZonotope, Cause>
     requires { Disturbable s radii.now }
-    ensures { result ≡ answered (of_result (disturb radii.now (view s))) s (disturb radii.now (view s)) }
+    ensures { result ≡ settled (disturb radii.now (view s)) }
 {
     let t = with_radii(s, radii);
-    let parts = t.radii;
-    let totals = zonotope::parts::totals(parts);
-    let n = t.dimension;
-    let h = t.terms;
-    let q = t.generators;
+    let totals = zonotope::parts::totals(t.radii);
     if span::too_wide(
         &t.centre,
         &t.coefficients,
         &t.vectors,
         &totals,
-        n,
-        h,
-        q,
+        t.dimension,
+        t.terms,
+        t.generators,
         MAX_SPAN,
     ) {
-        return Changed {
-            outcome: Examined::Refused(10),
-            set: s,
-        };
+        return Err(Cause::ResultTooWide);
     }
-    Changed {
-        outcome: Examined::Accepted,
-        set: t,
-    }
+    Ok(t)
 }
 
 // The set with the radii added.
@@ -47,10 +36,8 @@ fn with_radii(s: PolyZonotope, radii: &[u32]) -> PolyZonotope
     requires { Disturbable s radii.now }
     ensures { result ≡ pack (disturb radii.now (view s)) }
 {
-    let own = s.radii;
-    let given = own.given;
-    let sums = add_radii(given, radii);
-    let mut parts = own;
+    let mut parts = s.radii;
+    let sums = add_radii(parts.given, radii);
     parts.given = sums;
     let mut t = s;
     t.radii = parts;
@@ -63,9 +50,8 @@ fn add_radii(own: [u32; 6], radii: &[u32]) -> [u32; 6]
     ensures { result ≡ tab 6 (λ i. get_or own i 0 + get_or radii.now i 0) }
 {
     let mut out = own;
-    for i in 0..radii.len() {
-        let x = own[i];
-        out[i] = x + radii[i];
+    for (i, x) in radii.iter().enumerate() {
+        out[i] = own[i] + *x;
     }
     out
 }

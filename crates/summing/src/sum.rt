@@ -7,38 +7,37 @@ ghost use Rattle.model.specs.Operations.{joined, renumbered, tied_sum, independe
 ghost use Rattle.zonotope.specs.Record.{view};
 ghost use Rattle.zonotope.specs.Answer.{or_else};
 ghost use Rattle.align.specs.Sum.{Common};
-ghost use Rattle.finish.specs.Held.{held, finished_as};
-ghost use Rattle.answers.specs.Answer.{answered, of_result};
+ghost use Rattle.finish.specs.Held.{held};
+ghost use Rattle.answers.specs.Answer.{resulted, of_result, settled};
 ghost use Rattle.answers.specs.Finishing.{Finishable};
 ghost use Rattle.summing.specs.Summable.{Summable, Next, of_factors};
 ghost use Rattle.summing.specs.Summed.{unfinished_sum};
 
 use align::{Identifiers, Sum};
-use answers::Changed;
-use finish::{Finished, Unfinished};
-use zonotope::{Examined, PolyZonotope};
+use finish::Unfinished;
+use zonotope::{Cause, PolyZonotope};
 
-// The answer for the tied sum of examined sets: 9, 10.
-pub fn tied(first: PolyZonotope, second: PolyZonotope) -> Changed
+// The tied sum of examined sets: 9, 10.
+pub fn tied(first: PolyZonotope, second: PolyZonotope) -> Result<PolyZonotope, Cause>
     requires { Summable first second }
-    ensures { result ≡ answered (or_else (of_factors (view first) (view second))
-        (of_result (tied_sum standard_weights (view first) (view second)))) first (tied_sum standard_weights (view first) (view second)) }
+    ensures { result ≡ resulted (or_else (of_factors (view first) (view second))
+        (of_result (tied_sum standard_weights (view first) (view second)))) (tied_sum standard_weights (view first) (view second)) }
 {
     let all = align::tied_identifiers(first, second);
     if too_many(all.count) {
-        return Changed {
-            outcome: Examined::Refused(9),
-            set: first,
-        };
+        return Err(Cause::TooManyFactors);
     }
-    let f = tied_finished(first, second, all);
-    answers::settle(first, f)
+    tied_finished(first, second, all)
 }
 
 // The tied sum over its identifiers, finished.
-fn tied_finished(first: PolyZonotope, second: PolyZonotope, all: Identifiers) -> Finished
+fn tied_finished(
+    first: PolyZonotope,
+    second: PolyZonotope,
+    all: Identifiers,
+) -> Result<PolyZonotope, Cause>
     requires { Summable first second × Common (joined (view first) (view second)) all }
-    ensures { result ≡ finished_as (tied_sum standard_weights (view first) (view second)) }
+    ensures { result ≡ settled (tied_sum standard_weights (view first) (view second)) }
 {
     let mut e = [0u8; 960];
     let mut c = [0i64; 480];
@@ -47,22 +46,22 @@ fn tied_finished(first: PolyZonotope, second: PolyZonotope, all: Identifiers) ->
     finish_sum(first.dimension, all, sum, &e, &c, &mut g)
 }
 
-// The answer for the independent sum of examined sets: 9, 10.
-pub fn independent(first: PolyZonotope, second: PolyZonotope, next: u32) -> Changed
+// The independent sum of examined sets: 9, 10.
+pub fn independent(
+    first: PolyZonotope,
+    second: PolyZonotope,
+    next: u32,
+) -> Result<PolyZonotope, Cause>
     requires { Summable first second × Next next }
-    ensures { result ≡ answered (or_else (of_factors (view first) (renumbered next (view second)))
-        (of_result (independent_sum standard_weights next (view first) (view second)))) first
+    ensures { result ≡ resulted (or_else (of_factors (view first) (renumbered next (view second)))
+        (of_result (independent_sum standard_weights next (view first) (view second))))
         (independent_sum standard_weights next (view first) (view second)) }
 {
     let all = align::independent_identifiers(next, first, second);
     if too_many(all.count) {
-        return Changed {
-            outcome: Examined::Refused(9),
-            set: first,
-        };
+        return Err(Cause::TooManyFactors);
     }
-    let f = independent_finished(first, second, next, all);
-    answers::settle(first, f)
+    independent_finished(first, second, next, all)
 }
 
 // The independent sum over its identifiers, finished.
@@ -71,9 +70,9 @@ fn independent_finished(
     second: PolyZonotope,
     next: u32,
     all: Identifiers,
-) -> Finished
+) -> Result<PolyZonotope, Cause>
     requires { Summable first second × Next next × Common (joined (view first) (renumbered next (view second))) all }
-    ensures { result ≡ finished_as (independent_sum standard_weights next (view first) (view second)) }
+    ensures { result ≡ settled (independent_sum standard_weights next (view first) (view second)) }
 {
     let mut e = [0u8; 960];
     let mut c = [0i64; 480];
@@ -90,9 +89,9 @@ fn finish_sum(
     e: &[u8],
     c: &[i64],
     g: &mut [i64],
-) -> Finished
+) -> Result<PolyZonotope, Cause>
     requires { Finishable (unfinished_sum dimension all sum) e.now c.now sum.terms g.old sum.generators }
-    ensures { result ≡ finished_as (finish standard_weights 40 24
+    ensures { result ≡ settled (finish standard_weights 40 24
         (held (unfinished_sum dimension all sum) e.now c.now sum.terms g.old sum.generators)) }
 {
     let identifiers = first_twelve(&all.numbers);
@@ -129,9 +128,6 @@ pub fn first_twelve(numbers: &[u32; 24]) -> [u32; 12]
     ensures { result ≡ tab 12 (λ i. get_or numbers.now i 0) }
 {
     let mut out = [0u32; 12];
-    for i in 0..12 {
-        let x = numbers[i];
-        out[i] = x;
-    }
+    out.copy_from_slice(&numbers[..12]);
     out
 }

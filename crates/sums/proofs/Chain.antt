@@ -11,10 +11,9 @@ use Rattle.model.specs.Library.{of_radii, of_limits, bad_next, examine, disturb_
 use Rattle.model.proofs.Shape.{Valid, counted}
 use Rattle.model.proofs.Held.{held, held_valid, valid_ready, disturb-held, reduce-held, sum-held, independent_held}
 use Rattle.zonotope.specs.declared.PolyZonotope.{PolyZonotope}
-use Rattle.zonotope.specs.declared.Examined.TheVariants.{Accepted}
 use Rattle.zonotope.specs.Record.{view, given}
 use Rattle.zonotope.specs.Valid.{valid}
-use Rattle.zonotope.specs.Answer.{or_else}
+use Rattle.zonotope.specs.Answer.{Accepted, or_else}
 use Rattle.answers.specs.declared.Changed.{Changed}
 use Rattle.answers.specs.Answer.{answered, of_result, result-narrow}
 use Rattle.answers.specs.Order.{neither}

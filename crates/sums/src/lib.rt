@@ -12,16 +12,13 @@ use answers::Changed;
 use zonotope::PolyZonotope;
 
 mod refusals;
+mod results;
 
 // The set with radii for n coordinates added to its own.
 pub fn disturb(s: PolyZonotope, n: usize, radii: &[u32]) -> Changed
     ensures { result ≡ answered (disturb_refusal n radii.now (given s)) s (disturb radii.now (view s)) }
 {
-    let o = refusals::before_disturbing(s, n, radii);
-    if answers::is_refused(o) {
-        return Changed { outcome: o, set: s };
-    }
-    summing::disturbance::disturbed(s, radii)
+    answers::answer(s, results::disturbed(s, n, radii))
 }
 
 // The set with at most this many terms and generators, the smallest ones folded.
@@ -29,25 +26,14 @@ pub fn reduce(s: PolyZonotope, term_limit: usize, generator_limit: usize) -> Cha
     ensures { result ≡ answered (reduce_refusal term_limit generator_limit (given s)) s
         (reduce standard_weights term_limit generator_limit (view s)) }
 {
-    let o = refusals::before_reducing(s, term_limit, generator_limit);
-    if answers::is_refused(o) {
-        return Changed { outcome: o, set: s };
-    }
-    summing::reduction::reduced(s, term_limit, generator_limit)
+    answers::answer(s, results::reduced(s, term_limit, generator_limit))
 }
 
 // The sum in which factors with one identifier are one factor (document 01: the tied sum).
 pub fn tied_sum(first: PolyZonotope, second: PolyZonotope) -> Changed
     ensures { result ≡ answered (tied_refusal (given first) (given second)) first (tied_sum standard_weights (view first) (view second)) }
 {
-    let o = summing::arguments::before_summing(first, second);
-    if answers::is_refused(o) {
-        return Changed {
-            outcome: o,
-            set: first,
-        };
-    }
-    summing::sum::tied(first, second)
+    answers::answer(first, results::tied(first, second))
 }
 
 // The sum in which the second set's factors are its own, with the identifiers next, next + 1 ..
@@ -55,12 +41,5 @@ pub fn independent_sum(first: PolyZonotope, second: PolyZonotope, next: u32) -> 
     ensures { result ≡ answered (independent_refusal next (given first) (given second)) first
         (independent_sum standard_weights next (view first) (view second)) }
 {
-    let o = refusals::before_renumbering(first, second, next);
-    if answers::is_refused(o) {
-        return Changed {
-            outcome: o,
-            set: first,
-        };
-    }
-    summing::sum::independent(first, second, next)
+    answers::answer(first, results::independent(first, second, next))
 }

@@ -7,11 +7,11 @@ ghost use Rattle.model.specs.Run.{first_of};
 ghost use Rattle.model.specs.Library.{of_radii, of_limits, bad_next};
 ghost use Rattle.zonotope.specs.Record.{view, given};
 ghost use Rattle.zonotope.specs.Shape.{Sized};
-ghost use Rattle.zonotope.specs.Answer.{examined, or_else};
+ghost use Rattle.zonotope.specs.Answer.{examined, Accepted, or_else};
 ghost use Rattle.summing.specs.Arguments.{before_summing, of_next};
 ghost use Rattle.sums.specs.Causes.{before_disturbing, before_reducing};
 
-use zonotope::{Examined, PolyZonotope};
+use zonotope::{Cause, PolyZonotope};
 
 // The largest radius of a disturbance.
 const MAX_DISTURBANCE: u32 = 1048576;
@@ -19,74 +19,69 @@ const MAX_DISTURBANCE: u32 = 1048576;
 // ---- the order
 
 // The first cause that refuses a disturbance before its result is looked at: the set, then the radii.
-pub fn before_disturbing(s: PolyZonotope, n: usize, radii: &[u32]) -> Examined
+pub fn before_disturbing(s: PolyZonotope, n: usize, radii: &[u32]) -> Result<(), Cause>
     ensures value { result ≡ examined (before_disturbing n radii.now (given s)) }
-    ensures sized { result ≡ Examined.Accepted → Sized s }
+    ensures sized { result ≡ Accepted → Sized s }
 {
-    let o = zonotope::examine(s);
-    if answers::is_refused(o) {
-        return o;
-    }
+    zonotope::examine(s)?;
     of_radii(s.dimension, n, radii)
 }
 
 // The first cause that refuses radii for n coordinates.
-fn of_radii(dimension: usize, n: usize, radii: &[u32]) -> Examined
+fn of_radii(dimension: usize, n: usize, radii: &[u32]) -> Result<(), Cause>
     ensures { result ≡ examined (first_of (of_radii n radii.now dimension)) }
 {
     if zonotope::arguments::bad_dimension(n) {
-        return Examined::Refused(4);
+        return Err(Cause::Count);
     }
     if radii.len() != n {
-        return Examined::Refused(3);
+        return Err(Cause::Length);
     }
     if n != dimension {
-        return Examined::Refused(5);
+        return Err(Cause::Dimension);
     }
     if any_above(radii, MAX_DISTURBANCE) {
-        return Examined::Refused(6);
+        return Err(Cause::Range);
     }
     if radii_empty(radii) {
-        return Examined::Refused(14);
+        return Err(Cause::EmptyDisturbance);
     }
-    Examined::Accepted
+    Ok(())
 }
 
 // The first cause that refuses a reduction before its result is looked at: the set, then the limits.
-pub fn before_reducing(s: PolyZonotope, term_limit: usize, generator_limit: usize) -> Examined
+pub fn before_reducing(
+    s: PolyZonotope,
+    term_limit: usize,
+    generator_limit: usize,
+) -> Result<(), Cause>
     ensures value { result ≡ examined (before_reducing term_limit generator_limit (given s)) }
-    ensures sized { result ≡ Examined.Accepted → Sized s }
+    ensures sized { result ≡ Accepted → Sized s }
 {
-    let o = zonotope::examine(s);
-    if answers::is_refused(o) {
-        return o;
-    }
+    zonotope::examine(s)?;
     of_limits(term_limit, generator_limit)
 }
 
 // The cause that refuses a reduction's limits.
-fn of_limits(term_limit: usize, generator_limit: usize) -> Examined
+fn of_limits(term_limit: usize, generator_limit: usize) -> Result<(), Cause>
     ensures { result ≡ examined (first_of (of_limits term_limit generator_limit)) }
 {
     if limits_out(term_limit, generator_limit) {
-        return Examined::Refused(4);
+        return Err(Cause::Count);
     }
-    Examined::Accepted
+    Ok(())
 }
 
 // The first cause that refuses an independent sum before its result is looked at: the two sets, then the next identifier.
-pub fn before_renumbering(first: PolyZonotope, second: PolyZonotope, next: u32) -> Examined
+pub fn before_renumbering(first: PolyZonotope, second: PolyZonotope, next: u32) -> Result<(), Cause>
     ensures value { result ≡ examined (or_else (before_summing (given first) (given second)) (of_next (bad_next next (view first)))) }
-    ensures sized { result ≡ Examined.Accepted → Sized first × Sized second }
+    ensures sized { result ≡ Accepted → Sized first × Sized second }
 {
-    let o = summing::arguments::before_summing(first, second);
-    if answers::is_refused(o) {
-        return o;
-    }
+    summing::arguments::before_summing(first, second)?;
     if fresh::bad_next(first, next) {
-        return Examined::Refused(11);
+        return Err(Cause::NextIdentifier);
     }
-    Examined::Accepted
+    Ok(())
 }
 
 // ---- the tests
@@ -102,12 +97,7 @@ fn limits_out(term_limit: usize, generator_limit: usize) -> bool
 fn any_above(radii: &[u32], limit: u32) -> bool
     ensures { result ≡ any (ltb limit) radii.now }
 {
-    for i in 0..radii.len() {
-        if limit < radii[i] {
-            return true;
-        }
-    }
-    false
+    radii.iter().any(|x| limit < *x)
 }
 
 // 14: whether the radii are all zero.

@@ -1,8 +1,8 @@
 -- A piece of text put into a buffer.
-use Rattle.std.specs.Prelude.{◌≡◌, refl, List, [], ◌++◌, ℕ, ◌+◌, ◌≤◌, ◌<◌, length, get_or, take, drop, set}
-use Rattle.std.proofs.Common.{sym, ap, ap₂, ◌∙◌, subst, append_assoc, append-nil, add_assoc, add-one, arith, length-append, take-append-drop, drop-drop}
-use Rattle.std.proofs.Math.Seq.{paste, paste-zero, paste-suc, take-length}
-use Rattle.std.proofs.lemmas.List.Edits.{take-paste, drop-paste}
+use Rattle.std.specs.Prelude.{◌≡◌, refl, List, [], ◌++◌, ℕ, ◌+◌, ◌-◌, ◌≤◌, length, take, drop}
+use Rattle.std.proofs.Common.{sym, ap, ap₂, ◌∙◌, subst, append_assoc, append-nil, add_assoc, arith, length-append, take-append-drop, drop-drop}
+use Rattle.std.proofs.lemmas.Slice.{take-put_mid, drop-put_mid}
+use borrow.Rule.Slice.PartMut.{put_mid}
 
 -- `piece`, of at most `most` bytes, stands in `after` from `at` up to `end`; all else is as it was in `before`
 pub record Appended (most : ℕ) (before after : List ℕ) (at end : ℕ) (piece : List ℕ) : Type 0 where
@@ -37,21 +37,14 @@ pub named : {m n : ℕ} {a b : List ℕ} {i j : ℕ} {p q : List ℕ} → m ≤ 
 named {m} {n} {a} {b} {i} {j} {p} l e x = subst (Appended n a b i j) e
     (record { ends = x.ends; short = omega (arith, x.short); text = x.text; rest = x.rest })
 
--- ---- a loop that puts the piece in byte by byte
-module _ (d : List ℕ) (at : ℕ) (s : List ℕ) (room : at + length s ≤ length d) where
-  pub filling_begins : d ≡ paste d at s 0
-  filling_begins = paste-zero d at s
-
-  pub filling_goes_on : (o : List ℕ) (j : ℕ) → o ≡ paste d at s j → j < length s → set o (at + j) (get_or s j 0) ≡ paste d at s (j + 1)
-  filling_goes_on o j e h =
-      ap (λ l. set l (at + j) (get_or s j 0)) e ∙ paste-suc d at s j 0 (omega arith) h ∙ ap (λ k. paste d at s k) (sym (add-one j))
-
-  pub filling_ends : (o : List ℕ) (j : ℕ) → o ≡ paste d at s j → j ≤ length s → length s ≤ j → Appended (length s) d o at (at + j) s
-  filling_ends o j e h k =
-      let n : j ≡ length s = omega arith in
-      record {
-        ends = ap (λ m. at + m) n;
-        short = omega arith;
-        text = ap (take (at + j)) e ∙ take-paste d at s j (omega arith) h ∙ ap (λ l. take at d ++ l) (ap (λ m. take m s) n ∙ take-length s);
-        rest = ap (drop (at + j)) e ∙ drop-paste d at s j (omega arith) h;
-      }
+-- ---- a piece copied into a part of the buffer
+pub copied : (d s t : List ℕ) (at : ℕ) → t ≡ s → at + length s ≤ length d
+    → Appended (length s) d (put_mid at (at + length s - at) d t) at (at + length s) s
+copied d s t at e room =
+    let n : length t ≡ length s = ap length e in
+    record {
+      ends = refl;
+      short = omega arith;
+      text = take-put_mid at _ d t (at + length s) (omega arith) (omega arith) ∙ ap (take at d ++◌) e;
+      rest = drop-put_mid at (at + length s - at) d t (at + length s) (omega arith) (omega arith) (omega arith);
+    }

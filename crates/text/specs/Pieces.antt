@@ -1,23 +1,35 @@
 -- The pieces of which lines are made.
-use Rattle.std.specs.Prelude.{◌≡◌, refl, Bool, true, false, List, [], ◌∷◌, ◌++◌, map, ℕ, zero, suc, ◌+◌, ◌*◌, ◌<◌, ◌≤◌, ℤ, pos, negsuc, nat_abs, length, get_or, take}
-use Rattle.std.proofs.Common.{sym, ap, ap₂, ◌∙◌, subst, true≢false, append_assoc, append-nil, add-one, arith, ltb-true, take-suc, take_all}
+use Rattle.std.specs.Prelude.{◌≡◌, refl, Bool, true, false, List, [], ◌∷◌, ◌++◌, map, ℕ, zero, suc, ◌+◌, ◌*◌, ◌<◌, ◌≤◌, ℤ, length, get_or, take}
+use Rattle.std.proofs.Common.{sym, ap, ap₂, ◌∙◌, append_assoc, append-nil, add-one, arith, take-suc, take_all, length-take-le, get_or-take, pos}
 use Rattle.std.proofs.lemmas.List.{map-append}
-use Rattle.std.specs.Int.Signed.{lt_z}
-use Rattle.whole.specs.Tab.{tab}
+use Rattle.whole.specs.Tab.{tab, tab_cong, tab_get_d}
 use Rattle.model.specs.Set.{at}
 use Rattle.model.specs.Text.{ascii, decimal, signed_decimal, following, verdict_word, ends}
 use Rattle.text.specs.Appended.{Appended, both, named}
 
+-- a word after a space
+abbrev pub after_space : List ℕ → List ℕ
+after_space w = ascii " " ++ w
+
 -- a number after a space
 abbrev pub item : ℕ → List ℕ
-item n = ascii " " ++ decimal n
+item n = after_space (decimal n)
 
 abbrev pub signed_item : ℤ → List ℕ
-signed_item z = ascii " " ++ signed_decimal z
+signed_item z = after_space (signed_decimal z)
 
 -- the first n numbers of a vector
 abbrev pub firsts : ℕ → List ℤ → List ℤ
 firsts n v = tab n (at v)
+
+-- all of them, where there are n
+pub firsts-all : (v : List ℤ) (n : ℕ) → length v ≡ n → firsts n v ≡ v
+firsts-all v n h = tab_get_d n v (pos 0) h
+
+-- as code takes them
+pub firsts_taken : (n : ℕ) (v : List ℤ) → n ≤ length v → take n v ≡ firsts n v
+firsts_taken n v h =
+    sym (tab_get_d n (take n v) (pos 0) (length-take-le n v h)) ∙ tab_cong n _ (at v) (λ i l. get_or-take n v i (pos 0) l)
 
 -- words, each after a space
 unfoldable pub spaced : List (List ℕ) → List ℕ
@@ -27,19 +39,6 @@ spaced (w ∷ ws) = ascii " " ++ (w ++ spaced ws)
 -- the first n of some numbers, each after a space
 abbrev pub items : ℕ → List ℕ → List ℕ
 items n ns = spaced (map decimal (take n ns))
-
--- ---- a signed number, by its sign and its size
-pub negative_put : {a b c : List ℕ} {i j k : ℕ} (z : ℤ) (n : ℕ) → lt_z z (pos 0) ≡ true → n ≡ nat_abs z
-    → Appended 1 a b i j (ascii "-") → Appended 20 b c j k (decimal n) → Appended 21 a c i k (signed_decimal z)
-unfolding signed_decimal ascii
-negative_put {a} {b} {c} {i} {j} {k} (negsuc m) n t e x y = subst (λ l. Appended 21 a c i k (ascii "-" ++ decimal l)) e (both x y)
-negative_put (pos m) n t e x y = absurd (omega (arith, ltb-true m 0 t))
-
-pub positive_put : {a b : List ℕ} {i k : ℕ} (z : ℤ) (n : ℕ) → lt_z z (pos 0) ≡ false → n ≡ nat_abs z
-    → Appended 20 a b i k (decimal n) → Appended 21 a b i k (signed_decimal z)
-unfolding signed_decimal
-positive_put (pos m) n t e y = named (omega arith) (ap decimal e) y
-positive_put (negsuc m) n t e y = absurd (true≢false t)
 
 -- ---- a verdict
 pub safe_put : {a b : List ℕ} {i k : ℕ} (safe : Bool) → safe ≡ true
@@ -70,8 +69,8 @@ ends_more low high (suc n) =
 
 pub ends_put : {most : ℕ} {a b c d : List ℕ} {i j k l : ℕ} (low high : ℕ → ℤ) (n : ℕ) (y z : ℤ)
     → Appended most a b i j (spaced (ends (tab n low) (tab n high)))
-    → Appended 22 b c j k (signed_item y) → Appended 22 c d k l (signed_item z) → y ≡ low n → z ≡ high n
-    → Appended (most + 44) a d i l (spaced (ends (tab (n + 1) low) (tab (n + 1) high)))
+    → Appended 21 b c j k (signed_item y) → Appended 21 c d k l (signed_item z) → y ≡ low n → z ≡ high n
+    → Appended (most + 42) a d i l (spaced (ends (tab (n + 1) low) (tab (n + 1) high)))
 ends_put low high n y z p q r e f =
     named (omega arith) (ap₂ (λ u v. spaced (ends (tab n low) (tab n high)) ++ (signed_item u ++ signed_item v)) e f
     ∙ ends_more low high n ∙ ap (λ m. spaced (ends (tab m low) (tab m high))) (sym (add-one n))) (both p (both q r))

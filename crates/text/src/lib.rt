@@ -10,6 +10,8 @@ ghost use Rattle.text.specs.Lines.{longest_line, longest_folded_line, longest_en
 
 pub mod appending;
 
+use appending::{append, append_ends, append_item, append_items, append_number, append_verdict};
+
 // No line is longer.
 pub const LONGEST_LINE: usize = 320;
 
@@ -27,10 +29,10 @@ pub fn box_line(
     ensures { Appended longest_line out.old out.new at result
         (box_line field tag (firsts n low.now) (firsts n high.now)) }
 {
-    let a = appending::append_number(out, at, field as u64);
-    let b = appending::append_item(out, a, whole::widen_u8(tag));
-    let c = appending::append_ends(out, b, n, low, high);
-    appending::append(out, c, b"\n")
+    let at = append_number(out, at, field as u64);
+    let at = append_item(out, at, u64::from(tag));
+    let at = append_ends(out, at, &low[..n], &high[..n]);
+    append(out, at, b"\n")
 }
 
 // The line of an accepted check.
@@ -38,9 +40,9 @@ pub fn verdict_line(out: &mut [u8], at: usize, field: usize, tag: u8, safe: bool
     requires { at + longest_line ≤ length out.old }
     ensures { Appended longest_line out.old out.new at result (verdict_line field tag safe) }
 {
-    let a = appending::append_number(out, at, field as u64);
-    let b = appending::append_item(out, a, whole::widen_u8(tag));
-    appending::append_verdict(out, b, safe)
+    let at = append_number(out, at, field as u64);
+    let at = append_item(out, at, u64::from(tag));
+    append_verdict(out, at, safe)
 }
 
 // The line of a refused field whose first byte is at `place`.
@@ -48,11 +50,11 @@ pub fn refusal_line(out: &mut [u8], at: usize, field: usize, number: u8, place: 
     requires { at + longest_line ≤ length out.old }
     ensures { Appended longest_line out.old out.new at result (refusal_line field number place) }
 {
-    let a = appending::append_number(out, at, field as u64);
-    let b = appending::append(out, a, b" refused");
-    let c = appending::append_item(out, b, whole::widen_u8(number));
-    let d = appending::append_item(out, c, place as u64);
-    appending::append(out, d, b"\n")
+    let at = append_number(out, at, field as u64);
+    let at = append(out, at, b" refused");
+    let at = append_item(out, at, u64::from(number));
+    let at = append_item(out, at, place as u64);
+    append(out, at, b"\n")
 }
 
 // The line before the last: for each coordinate what folding added to its radius.
@@ -60,9 +62,9 @@ pub fn folded_line(out: &mut [u8], at: usize, totals: &[u64; 6]) -> usize
     requires { at + longest_folded_line ≤ length out.old }
     ensures { Appended longest_folded_line out.old out.new at result (folded_line totals.now) }
 {
-    let a = appending::append(out, at, b"folded");
-    let b = appending::append_items(out, a, *totals);
-    appending::append(out, b, b"\n")
+    let at = append(out, at, b"folded");
+    let at = append_items(out, at, totals);
+    append(out, at, b"\n")
 }
 
 // The last line of a run in which no field was refused: the number of the last one.
@@ -70,9 +72,9 @@ pub fn end_line(out: &mut [u8], at: usize, field: usize) -> usize
     requires { at + longest_end_line ≤ length out.old }
     ensures { Appended longest_end_line out.old out.new at result (end_line field) }
 {
-    let a = appending::append(out, at, b"end");
-    let b = appending::append_item(out, a, field as u64);
-    appending::append(out, b, b"\n")
+    let at = append(out, at, b"end");
+    let at = append_item(out, at, field as u64);
+    append(out, at, b"\n")
 }
 
 // The two lines that close a run in which no field was refused; together they are no longer than a longest line.
@@ -81,6 +83,6 @@ pub fn closing_lines(out: &mut [u8], at: usize, totals: &[u64; 6], field: usize)
     ensures { Appended longest_line out.old out.new at result
         (folded_line totals.now ++ end_line field) }
 {
-    let a = folded_line(out, at, totals);
-    end_line(out, a, field)
+    let at = folded_line(out, at, totals);
+    end_line(out, at, field)
 }

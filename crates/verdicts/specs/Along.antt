@@ -8,9 +8,8 @@ use Prim.Native.Nat.{ℕ, ◌+◌, ◌*◌, ◌≤◌}
 use native.Mathlib.Omega.{arith}
 use Rattle.std.proofs.Math.ListN.{get_or}
 use Rattle.std.proofs.Math.IntN.{pos, nat_abs, ◌+ℤ◌, ◌-ℤ◌}
-use Rattle.std.specs.Int.Signed.{lt_z, clash_ℤ}
-use Rattle.whole.specs.AsNaturals.{as_ℕ, lt_z_true, lt_z_false}
-use Rattle.whole.specs.Order.{nonneg_pos}
+use Rattle.std.specs.Int.{int_min}
+use Rattle.std.proofs.lemmas.Int.{ints, clamps}
 use Rattle.whole.specs.Size.{abs_add, abs_neg}
 use Rattle.whole.specs.Sum.{monoid_ℕ, monoid_ℤ, upto_ℕ, upto_ℤ, upto_cong, upto_suc}
 use Rattle.whole.specs.Tab.{tab, get_d_tab}
@@ -49,10 +48,11 @@ radius_sum a radii n = upto_ℕ (λ j. nat_abs (at a j) * get_or radii j 0) n
 abbrev pub reach_bound : ℕ
 reach_bound = 3377699719741440
 
--- the lower end, by place: n coordinates, p factors, h terms, q generators
-abbrev pub low_by : List ℤ → List ℤ → List ℕ → List ℤ → List ℤ → List ℕ → ℕ → ℕ → ℕ → ℕ → ℤ
-low_by a centre exponents coefficients vectors radii n p h q =
-    (row_dot a centre 0 n +ℤ least_sum a exponents coefficients p n h) -ℤ pos (size_sum a vectors n q + radius_sum a radii n)
+-- the lower end, by place
+abbrev pub low_by : List ℤ → PolyZonotope → List ℕ → ℤ
+low_by a s radii =
+    (row_dot a s.centre 0 s.dimension +ℤ least_sum a s.exponents s.coefficients s.factors s.dimension s.terms)
+    -ℤ pos (size_sum a s.vectors s.dimension s.generators + radius_sum a radii s.dimension)
 
 -- ---- sizes
 pub least_size : (b : Bool) (g : ℤ) → nat_abs (least b g) ≤ nat_abs g
@@ -79,22 +79,11 @@ grown f n B h k = rw (upto_suc (pos 0) ◌+ℤ◌ f n) (le_trans (abs_add (upto_
     more : (n B : ℕ) → n * B + B ≡ (n + 1) * B
     more n B = sym (add-mul n 1 B ∙ ap (n * B +◌) (one-mul B))
 
--- ---- the least contribution, by the sign
-pub least-negative : (b : Bool) (g : ℤ) → lt_z g (pos 0) ≡ true → least b g ≡ g
+-- ---- the least contribution of an even monomial
+pub least_even : (g : ℤ) → int_min g (pos 0) ≡ least true g
 unfolding least
-least-negative true (negsuc n) t = refl
-least-negative false (negsuc n) t = refl
-least-negative b (pos n) t = absurd (clash_ℤ ((lt_z_true (pos n) (pos 0)).0 t) (nonneg_pos n))
-
-pub least-even : (g : ℤ) → lt_z g (pos 0) ≡ false → least true g ≡ pos 0
-unfolding least
-least-even (pos n) t = refl
-least-even (negsuc n) t = absurd ((lt_z_false (negsuc n) (pos 0)).0 t).le
-
-pub least_odd : (g : ℤ) → lt_z g (pos 0) ≡ false → least false g ≡ pos 0 -ℤ g
-unfolding least
-least_odd (pos n) t = simp as_ℕ (omega arith)
-least_odd (negsuc n) t = absurd ((lt_z_false (negsuc n) (pos 0)).0 t).le
+least_even (pos n) = let none : int_min (pos n) (pos 0) ≡ pos 0 = omega (arith, ints, clamps) in none
+least_even (negsuc n) = refl
 
 -- ---- the lower end along a normal, by place
 module _ (s : PolyZonotope) (a : List ℤ) where
@@ -111,8 +100,7 @@ module _ (s : PolyZonotope) (a : List ℤ) where
       first : (j : ℕ) → j ≡ 0 * 6 + j
       first j = omega arith
 
-  pub view-low : {radii : List ℕ} → s.dimension ≤ 6 → radii ≡ totals_of s.radii → low_along a (view s) ≡
-      low_by a s.centre s.exponents s.coefficients s.vectors radii s.dimension s.factors s.terms s.generators
+  pub view-low : {radii : List ℕ} → s.dimension ≤ 6 → radii ≡ totals_of s.radii → low_along a (view s) ≡ low_by a s radii
   unfolding low_along low_end view
   view-low few e =
       ap₂ ◌-ℤ◌

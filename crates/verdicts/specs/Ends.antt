@@ -1,14 +1,19 @@
 -- The ends of all coordinates, by the places of the record's arrays. One definition has both ends: the high one where `up` is true.
-use Rattle.std.specs.Prelude.{◌≡◌, refl, List, Bool, get_or, replicate, ℤ, negsuc, ◌-ℤ◌}
+use Rattle.std.specs.Prelude.{◌≡◌, refl, List, Bool, length, get_or, replicate, ℤ, negsuc, ◌-ℤ◌}
+use Rattle.std.proofs.Common.{subst, to_z, of_z, to_z-of_z, w64}
+use mir.Facts.{to_z_pos}
+use Rattle.whole.specs.Fits.{fits_abs}
+use Rattle.whole.specs.Size.{abs_add}
+use Rattle.whole.specs.Write.{write, write-after, write-all}
+use mir.Val.{SFits}
 use Rattle.std.proofs.Common.{sym, ◌∙◌, arith}
 use Rattle.std.proofs.Math.Path.{ap, ap₂}
 use Rattle.std.proofs.Math.Bool.{true, false}
 use Prim.Native.Nat.{ℕ, ◌+◌, ◌*◌, ◌<◌, ◌≤◌}
 use Rattle.std.proofs.Math.Decide.{dec_lt}
 use Rattle.std.proofs.Math.IntN.{pos, nat_abs, ◌+ℤ◌}
-use Rattle.std.specs.Int.Signed.{lt_z, clash_ℤ}
-use Rattle.whole.specs.AsNaturals.{as_ℕ, lt_z_true, lt_z_false}
-use Rattle.whole.specs.Order.{nonneg_pos}
+use Rattle.std.specs.Int.{int_max}
+use Rattle.std.proofs.lemmas.Int.{ints, clamps}
 use Rattle.whole.specs.Sum.{monoid_ℕ, monoid_ℤ, sum_ℕ, sum_ℤ, upto_by, upto_ℤ, upto_cong}
 use Rattle.whole.specs.Tab.{tab, get_d_tab, get_d_tab_past}
 use Rattle.model.specs.Set.{Zonotope, at, radius}
@@ -20,7 +25,7 @@ use Rattle.zonotope.specs.declared.PolyZonotope.{PolyZonotope}
 use Rattle.zonotope.specs.Record.{view, totals_of}
 use Rattle.zonotope.specs.View.{row_at, view-radius}
 use Rattle.verdicts.specs.Six.{six, six_cong}
-use Rattle.verdicts.specs.Along.{least_size}
+use Rattle.verdicts.specs.Along.{least_size, subtract_size}
 
 -- the end of a coordinate
 abbrev pub end_of : Bool → Zonotope → ℕ → ℤ
@@ -41,22 +46,11 @@ reached true x w = x +ℤ pos w
 abbrev pub row_extreme : Bool → List ℕ → List ℤ → ℕ → ℕ → ℕ → ℤ
 row_extreme up exponents coefficients p t i = extreme up (all_even (row 12 0 exponents t p)) (at coefficients (t * 6 + i))
 
--- ---- the greatest contribution, by the sign
-pub greatest_positive : (b : Bool) (g : ℤ) → lt_z g (pos 0) ≡ false → greatest b g ≡ g
+-- ---- the greatest contribution of an even monomial
+pub greatest_even : (g : ℤ) → int_max g (pos 0) ≡ greatest true g
 unfolding greatest
-greatest_positive true (pos n) t = refl
-greatest_positive false (pos n) t = refl
-greatest_positive b (negsuc n) t = absurd ((lt_z_false (negsuc n) (pos 0)).0 t).le
-
-pub greatest-even : (g : ℤ) → lt_z g (pos 0) ≡ true → greatest true g ≡ pos 0
-unfolding greatest
-greatest-even (negsuc n) t = refl
-greatest-even (pos n) t = absurd (clash_ℤ ((lt_z_true (pos n) (pos 0)).0 t) (nonneg_pos n))
-
-pub greatest_odd : (g : ℤ) → lt_z g (pos 0) ≡ true → greatest false g ≡ pos 0 -ℤ g
-unfolding greatest
-greatest_odd (negsuc n) t = simp as_ℕ (omega arith)
-greatest_odd (pos n) t = absurd (clash_ℤ ((lt_z_true (pos n) (pos 0)).0 t) (nonneg_pos n))
+greatest_even (pos n) = let all : int_max (pos n) (pos 0) ≡ pos n = omega (arith, ints, clamps) in all
+greatest_even (negsuc n) = refl
 
 -- ---- sizes
 pub extreme-size : (up b : Bool) (g : ℤ) → nat_abs (extreme up b g) ≤ nat_abs g
@@ -93,6 +87,78 @@ module _ (up : Bool) (exponents : List ℕ) (coefficients : List ℤ) (p : ℕ) 
         (q ∙ ap (λ c. tab 6 (λ i. at sums i +ℤ extreme up c (at coefficients (t * 6 + i)))) e);
     small = k;
   }
+
+-- ---- a row's numbers, each added to a sum
+module _ (up even : Bool) (row old : List ℤ) where
+  abbrev pub added : ℕ → ℤ
+  added k = at old k +ℤ extreme up even (at row k)
+
+  pub record Added (new : List ℤ) : Type 0 where
+    pub are : new ≡ tab 6 added
+    pub small : (i : ℕ) → nat_abs (at new i) ≤ nat_abs (at old i) + 2147483648
+
+  -- a place that isn't written yet
+  held : (i : ℕ) {new : List ℤ} → new ≡ write old 0 added i → at new i ≡ at old i
+  held i {new} p = ap (λ (w : List ℤ). at w i) p ∙ write-after old 0 added (pos 0) i i (omega arith)
+
+  -- a sum as the code makes it
+  pub summed : (i : ℕ) {n : List ℤ} {d : ℤ} → n ≡ write old 0 added i → nat_abs (at old i) ≤ 40 * 2147483648 → nat_abs (at row i) ≤ 2147483648
+      → d ≡ extreme up even (at row i) → to_z w64 (of_z w64 (at n i)) +ℤ to_z w64 (of_z w64 d) ≡ added i
+  summed i {n} {d} p h k e =
+      ap₂ ◌+ℤ◌ (ap (λ z. to_z w64 (of_z w64 z)) (held i p) ∙ to_z-of_z {w = w64} {z = at old i} (fits_abs (omega arith)))
+      (ap (λ z. to_z w64 (of_z w64 z)) e
+      ∙ to_z-of_z {w = w64} {z = extreme up even (at row i)} (fits_abs (omega (arith, extreme-size up even (at row i)))))
+
+  pub fitting : (i : ℕ) → nat_abs (at old i) ≤ 40 * 2147483648 → nat_abs (at row i) ≤ 2147483648 → SFits w64 (added i)
+  fitting i h k = fits_abs (omega (arith, abs_add (at old i) (extreme up even (at row i)), extreme-size up even (at row i)))
+
+  pub landed : (i : ℕ) {n : List ℤ} {d : ℤ} → n ≡ write old 0 added i → nat_abs (at old i) ≤ 40 * 2147483648 → nat_abs (at row i) ≤ 2147483648
+      → d ≡ extreme up even (at row i) → to_z w64 (of_z w64 (to_z w64 (of_z w64 (at n i)) +ℤ to_z w64 (of_z w64 d))) ≡ added i
+  landed i p h k e = ap (λ z. to_z w64 (of_z w64 z)) (summed i p h k e) ∙ to_z-of_z {w = w64} {z = added i} (fitting i h k)
+
+  pub all-added : {new : List ℤ} → length old ≡ 6 → new ≡ write old 0 added 6 → ((k : ℕ) → k < 6 → nat_abs (at row k) ≤ 2147483648) → Added new
+  all-added {new} l p h =
+      let is : new ≡ tab 6 added = p ∙ write-all old added (pos 0) 6 l in record {
+        are = is;
+        small = λ i. rw is (go i (dec_lt i 6));
+      }
+    where
+      go : (i : ℕ) → Dec (i < 6) → nat_abs (at (tab 6 added) i) ≤ nat_abs (at old i) + 2147483648
+      go i (yes m) =
+          omega (
+            arith,
+            ap nat_abs (get_d_tab 6 added (pos 0) i m),
+            abs_add (at old i) (extreme up even (at row i)),
+            extreme-size up even (at row i),
+            h i m,
+          )
+      go i (no m) = omega (arith, ap nat_abs (get_d_tab_past 6 added (pos 0) i (omega arith)))
+
+-- ---- both ends as the code makes them: from a centre c, what the terms contribute, and a width
+module _ (c m : ℤ) (w : ℕ) (cs : nat_abs c ≤ 2147483648) (ms : nat_abs m ≤ 40 * 2147483648) (ws : w ≤ 103079215100)
+    (r : ℤ) (e : to_z w64 (of_z w64 r) ≡ c) where
+  middle_is : to_z w64 (of_z w64 (to_z w64 (of_z w64 r) +ℤ to_z w64 (of_z w64 m))) ≡ c +ℤ m
+  middle_is =
+      ap (λ z. to_z w64 (of_z w64 z)) (ap₂ ◌+ℤ◌ e (to_z-of_z {w = w64} {z = m} (fits_abs (omega (arith, ms)))))
+      ∙ to_z-of_z {w = w64} {z = c +ℤ m} (fits_abs (omega (arith, abs_add c m, cs, ms)))
+
+  width_is : to_z w64 w ≡ pos w
+  width_is = to_z_pos w64 (omega (arith, ws))
+
+  low_fits : SFits w64 ((c +ℤ m) -ℤ pos w)
+  low_fits = fits_abs (omega (arith, subtract_size (c +ℤ m) w, abs_add c m, cs, ms, ws))
+
+  high_fits : SFits w64 ((c +ℤ m) +ℤ pos w)
+  high_fits = fits_abs (omega (arith, abs_add (c +ℤ m) (pos w), abs_add c m, cs, ms, ws))
+
+  pub low-fits : SFits w64 (to_z w64 (of_z w64 (to_z w64 (of_z w64 r) +ℤ to_z w64 (of_z w64 m))) -ℤ to_z w64 w)
+  low-fits = subst (SFits w64) (sym (ap₂ ◌-ℤ◌ middle_is width_is)) low_fits
+
+  pub low_made : to_z w64 (of_z w64 (to_z w64 (of_z w64 (to_z w64 (of_z w64 r) +ℤ to_z w64 (of_z w64 m))) -ℤ to_z w64 w)) ≡ (c +ℤ m) -ℤ pos w
+  low_made = ap (λ z. to_z w64 (of_z w64 z)) (ap₂ ◌-ℤ◌ middle_is width_is) ∙ to_z-of_z {w = w64} {z = (c +ℤ m) -ℤ pos w} low_fits
+
+  pub high_made : to_z w64 (of_z w64 (to_z w64 (of_z w64 (to_z w64 (of_z w64 r) +ℤ to_z w64 (of_z w64 m))) +ℤ to_z w64 w)) ≡ (c +ℤ m) +ℤ pos w
+  high_made = ap (λ z. to_z w64 (of_z w64 z)) (ap₂ ◌+ℤ◌ middle_is width_is) ∙ to_z-of_z {w = w64} {z = (c +ℤ m) +ℤ pos w} high_fits
 
 -- ---- the end of a coordinate, by place
 module _ (s : PolyZonotope) (few : s.dimension ≤ 6) (i : ℕ) (h : i < s.dimension) where

@@ -1,17 +1,19 @@
 -- The verdict on a set, and what a region's counts and lengths tell.
-use Rattle.std.specs.Prelude.{◌≡◌, Bool, true, false, not, ◌||◌, ℕ, ◌*◌, ◌≤◌, ltb, eqb}
+use Rattle.std.specs.Prelude.{◌≡◌, Bool, true, false, not, ◌||◌, ℕ, ◌*◌, ◌≤◌, ltb, eqb, Result, Ok, Err}
 use Rattle.std.proofs.Math.Option.{Option, none, some}
 use Rattle.std.proofs.Common.{mul-le-mul, ltb-false, eqb-true}
 use Rattle.std.proofs.lemmas.Bool.{not-false}
 use Rattle.whole.specs.Tests.{or_left, or_right}
+use Rattle.zonotope.specs.Answer.{cause_of}
+use Rattle.zonotope.specs.declared.Cause.{Cause}
 use Rattle.verdicts.specs.declared.Verdict.{Verdict}
-use Rattle.verdicts.specs.declared.Verdict.TheVariants.{Safe, Unknown, Refused}
+use Rattle.verdicts.specs.declared.Verdict.TheVariants.{Safe, Unknown}
 
--- the verdict: a refusal with its number, else whether the set is safe
-abbrev pub judged : Option ℕ → Bool → Verdict
-judged none true = Safe
-judged none false = Unknown
-judged (some n) b = Refused n
+-- the verdict: a refusal with the cause of its number, else whether the set is safe
+abbrev pub judged : Option ℕ → Bool → Result Verdict Cause
+judged none true = Ok Safe
+judged none false = Ok Unknown
+judged (some n) b = Err (cause_of n)
 
 -- ---- what a region's counts and lengths tell
 -- how many entries counts in limits give

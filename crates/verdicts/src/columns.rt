@@ -1,90 +1,65 @@
-// The ends of all coordinates in one pass over the rows of terms and one over those of generators; the high ends where `up` is true.
-ghost use Rattle.std.specs.Prelude.{◌≡◌, true, false, ℕ, ◌+◌, ◌*◌, ◌^◌, ◌≤◌, ◌<◌, get_or, nat_abs, ◌+ℤ◌};
-ghost use Rattle.whole.specs.Tab.{tab};
+// The ends of all coordinates in one pass over the rows of terms and one over the coordinates.
+ghost use Rattle.std.specs.Prelude.{◌≡◌, true, false, ℕ, ◌+◌, ◌*◌, ◌^◌, ◌≤◌, ◌<◌, length, get_or, nat_abs, ◌+ℤ◌};
 ghost use Rattle.model.specs.Set.{at};
 ghost use Rattle.model.specs.Operations.{greatest};
 ghost use Rattle.arrays.specs.Rows.{most_radius};
+ghost use Rattle.zonotope.specs.Counts.{InLimits};
 ghost use Rattle.verdicts.specs.Six.{six};
-ghost use Rattle.verdicts.specs.Ends.{extreme, reached, Extremes};
+ghost use Rattle.verdicts.specs.Ends.{reached, Added, Extremes};
 
 use crate::{Ends, along};
+use zonotope::PolyZonotope;
 
-// What the first h terms contribute to the ends of each coordinate.
-pub fn extremes<'a>(e: &'a [u8; 480], xs: &'a [i32; 240], h: usize, p: usize) -> Ends
-    requires { (h ≤ 40) × (p ≤ 12) }
-    ensures { Extremes false e.now xs.now p h result.low
-        × Extremes true e.now xs.now p h result.high }
+// What the terms contribute to both ends of each coordinate. A term has a row in two arrays, so the loop goes by its number.
+pub fn extremes(s: &PolyZonotope) -> Ends
+    requires { InLimits s.now }
+    ensures { Extremes false s.now.exponents s.now.coefficients s.now.factors s.now.terms result.low
+        × Extremes true s.now.exponents s.now.coefficients s.now.factors s.now.terms result.high }
 {
     let mut low = [0i64; 6];
     let mut high = [0i64; 6];
-    for t in 0..h {
-        let even = along::even_row(e, t, p);
-        let lower = add_row(low, false, even, xs, t);
-        let higher = add_row(high, true, even, xs, t);
-        low = lower;
-        high = higher;
+    for t in 0..s.terms {
+        let even = along::even_row(&s.exponents, t, s.factors);
+        add_row(&mut low, &mut high, even, &s.coefficients[t * 6..t * 6 + 6]);
     }
     Ends { low, high }
 }
 
-// The sums with what row t contributes.
-fn add_row(sums: [i64; 6], up: bool, even: bool, xs: &[i32; 240], t: usize) -> [i64; 6]
-    requires { (t < 40) × ((i : ℕ) → nat_abs (at sums i) ≤ t * 2147483648) }
-    ensures { (result ≡ tab 6 (λ i. at sums i +ℤ extreme up even (at xs.now (t * 6 + i))))
-        × ((i : ℕ) → nat_abs (at result i) ≤ (t + 1) * 2147483648) }
+// What a row contributes is added to both ends of each coordinate.
+fn add_row(low: &mut [i64; 6], high: &mut [i64; 6], even: bool, row: &[i32])
+    requires { (length row.now ≡ 6) × ((i : ℕ) → nat_abs (at low.old i) ≤ 40 * 2147483648)
+        × ((i : ℕ) → nat_abs (at high.old i) ≤ 40 * 2147483648) }
+    ensures { Added false even row.now low.old low.new × Added true even row.now high.old high.new }
 {
-    let mut out = sums;
-    for i in 0..6 {
-        let sum = sums[i];
-        let g = whole::widen(xs[t * 6 + i]);
-        out[i] = whole::add(sum, contribution(up, even, g));
+    for (i, x) in row.iter().enumerate() {
+        let g = i64::from(*x);
+        low[i] += along::least(even, g);
+        high[i] += greatest(even, g);
     }
-    out
 }
 
-// The end of each of n coordinates from its centre, what the terms contribute, the sizes of the generators and the radius.
-pub fn reach<'a, 'b>(
-    up: bool,
-    centre: &'a [i32; 6],
-    terms: &'b [i64; 6],
-    sizes: &'b [u64; 6],
-    radii: &'b [u64; 6],
-    n: usize,
-) -> [i64; 6]
-    requires { (n ≤ 6) × ((i : ℕ) → nat_abs (at terms.now i) ≤ 40 * 2147483648) × ((i : ℕ) → get_or sizes.now i 0 ≤ 40 * 2147483648)
-        × ((i : ℕ) → get_or radii.now i 0 ≤ most_radius) }
-    ensures { result ≡ six n (λ i. reached up (at centre.now i +ℤ at terms.now i)
-        (get_or sizes.now i 0 + get_or radii.now i 0)) }
+// Both ends of each coordinate: its centre and what the terms contribute, less and more by the sizes of the generators and the radius.
+// Five arrays give a number to each coordinate, so the loop goes by its place.
+pub fn reach(s: &PolyZonotope, terms: &Ends, sizes: &[u64; 6], radii: &[u64; 6]) -> Ends
+    requires { (s.now.dimension ≤ 6) × ((i : ℕ) → nat_abs (at terms.now.low i) ≤ 40 * 2147483648)
+        × ((i : ℕ) → nat_abs (at terms.now.high i) ≤ 40 * 2147483648)
+        × ((i : ℕ) → get_or sizes.now i 0 ≤ 40 * 2147483648) × ((i : ℕ) → get_or radii.now i 0 ≤ most_radius) }
+    ensures { (result.low ≡ six s.now.dimension (λ i. reached false (at s.now.centre i +ℤ at terms.now.low i)
+        (get_or sizes.now i 0 + get_or radii.now i 0)))
+        × (result.high ≡ six s.now.dimension (λ i. reached true (at s.now.centre i +ℤ at terms.now.high i)
+        (get_or sizes.now i 0 + get_or radii.now i 0))) }
 {
-    let mut out = [0i64; 6];
-    for i in 0..n {
-        let middle = whole::add(whole::widen(centre[i]), terms[i]);
-        let width = sizes[i] + radii[i];
-        out[i] = reach_from(up, middle, width);
+    let mut ends = Ends {
+        low: [0; 6],
+        high: [0; 6],
+    };
+    for i in 0..s.dimension {
+        let centre = i64::from(s.centre[i]);
+        let width = (sizes[i] + radii[i]) as i64;
+        ends.low[i] = centre + terms.low[i] - width;
+        ends.high[i] = centre + terms.high[i] + width;
     }
-    out
-}
-
-// The end that lies w from x.
-fn reach_from(up: bool, x: i64, w: u64) -> i64
-    requires { nat_abs x + w < 2 ^ 63 }
-    ensures { result ≡ reached up x w }
-{
-    if up {
-        return whole::add(x, w as i64);
-    }
-    whole::subtract(x, w as i64)
-}
-
-// What a coefficient contributes to an end.
-fn contribution(up: bool, even: bool, g: i64) -> i64
-    requires { nat_abs g < 2 ^ 63 }
-    ensures { result ≡ extreme up even g }
-{
-    if up {
-        return greatest(even, g);
-    }
-    along::least(even, g)
+    ends
 }
 
 // The most that a coefficient g contributes: 0 or g for an even monomial, else |g|.
@@ -92,11 +67,5 @@ fn greatest(even: bool, g: i64) -> i64
     requires { nat_abs g < 2 ^ 63 }
     ensures { result ≡ greatest even g }
 {
-    if g < 0 {
-        if even {
-            return 0;
-        }
-        return 0 - g;
-    }
-    g
+    if even { g.max(0) } else { g.abs() }
 }

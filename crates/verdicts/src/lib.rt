@@ -15,7 +15,7 @@ mod along;
 mod columns;
 mod region;
 
-use zonotope::{MAX_DIMENSION, PolyZonotope, parts};
+use zonotope::{Cause, MAX_DIMENSION, PolyZonotope, parts};
 
 // Document 01's limits: of a region's halfspaces, of the size of a normal's entry and of a bound.
 const MAX_HALFSPACES: usize = 8;
@@ -31,12 +31,11 @@ pub struct Ends {
     pub high: [i64; 6],
 }
 
-// What a check says: the set avoids the region, it isn't known to, or the call is refused with document 01's number.
-#[derive(Drop)]
+// What a check says: the set avoids the region, or it isn't known to.
+#[derive(Clone, Copy, PartialEq, Eq, Debug)]
 pub enum Verdict {
     Safe,
     Unknown,
-    Refused(u8),
 }
 
 // The box around the set's points: both ends of each coordinate.
@@ -44,44 +43,40 @@ pub fn ends_of(s: PolyZonotope) -> Ends
     requires { InLimits s }
     ensures { (result.low ≡ six s.dimension (low (view s))) × (result.high ≡ six s.dimension (high (view s))) }
 {
-    let n = s.dimension;
-    let p = s.factors;
-    let h = s.terms;
-    let q = s.generators;
-    let terms = columns::extremes(&s.exponents, &s.coefficients, h, p);
-    let sizes = arrays::span::column_sizes(&s.vectors, q);
-    let radii = parts::totals(s.radii);
-    let least = terms.low;
-    let greatest = terms.high;
-    let low = columns::reach(false, &s.centre, &least, &sizes, &radii, n);
-    let high = columns::reach(true, &s.centre, &greatest, &sizes, &radii, n);
-    Ends { low, high }
+    let terms = columns::extremes(&s);
+    let sizes = arrays::span::column_sizes(&s.vectors, s.generators);
+    columns::reach(&s, &terms, &sizes, &parts::totals(s.radii))
 }
 
 // Whether the set avoids the unsafe region of `count` halfspaces in n coordinates, as far as the lower ends tell. Normal k is the entries
 // k·n .. k·n + n - 1.
-pub fn judge(s: PolyZonotope, n: usize, count: usize, normals: &[i32], bounds: &[i64]) -> Verdict
+pub fn judge(
+    s: PolyZonotope,
+    n: usize,
+    count: usize,
+    normals: &[i32],
+    bounds: &[i64],
+) -> Result<Verdict, Cause>
     requires { InLimits s }
     ensures { result ≡ judged (first_of (of_region n count normals.now bounds.now (view s)))
         (safe (halfspaces n count normals.now bounds.now) (view s)) }
 {
     if (n == 0) | (MAX_DIMENSION < n) | (count == 0) | (MAX_HALFSPACES < count) {
-        return Verdict::Refused(4);
+        return Err(Cause::Count);
     }
     if (normals.len() != count * n) | (bounds.len() != count) {
-        return Verdict::Refused(3);
+        return Err(Cause::Length);
     }
-    let dimension = s.dimension;
-    if n != dimension {
-        return Verdict::Refused(5);
+    if n != s.dimension {
+        return Err(Cause::Dimension);
     }
     if zonotope::arguments::entries_beyond(normals, MAX_ENTRY)
         | region::bounds_beyond(bounds, MAX_BOUND)
     {
-        return Verdict::Refused(6);
+        return Err(Cause::Range);
     }
-    if region::any_apart(s, n, normals, bounds) {
-        return Verdict::Safe;
+    if region::any_apart(&s, n, normals, bounds) {
+        return Ok(Verdict::Safe);
     }
-    Verdict::Unknown
+    Ok(Verdict::Unknown)
 }

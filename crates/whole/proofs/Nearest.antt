@@ -74,7 +74,7 @@ module _ (v x : ℤ) (f : SFits w64 v) (below : stored x ≡ floor v scale) wher
   unfolding b
   high = floor_lt v scale (lit< tt)
 
-  pub times_fits : SFits w64 (stored x *ℤ pos 16777216)
+  times_fits : SFits w64 (stored x *ℤ pos 16777216)
   unfolding b
   times_fits = rw below (product_fits v b low high f)
 
@@ -88,7 +88,7 @@ module _ (v x : ℤ) (f : SFits w64 v) (below : stored x ≡ floor v scale) wher
   left_is : left ≡ pos (rest v b low high)
   left_is = ap₂ ◌-ℤ◌ (to_z-of_z f) times_is ∙ rest_is v b low high
 
-  pub left_fits : SFits w64 left
+  left_fits : SFits w64 left
   left_fits = rw left_is (small_fits (rest v b low high) (omega (arith, rest-short v b low high)))
 
   -- the rest with half a unit, less 1, and with 1 more above an odd number
@@ -98,7 +98,7 @@ module _ (v x : ℤ) (f : SFits w64 v) (below : stored x ≡ floor v scale) wher
   most_is : most ≡ pos (rest v b low high + 8388607)
   most_is = ap (◌+ℤ pos 8388607) (to_z-of_z left_fits ∙ left_is)
 
-  pub most_fits : SFits w64 most
+  most_fits : SFits w64 most
   most_fits = rw most_is (small_fits (rest v b low high + 8388607) (omega (arith, rest-short v b low high)))
 
   -- o is 1 where the number below is odd, else 0
@@ -110,13 +110,13 @@ module _ (v x : ℤ) (f : SFits w64 v) (below : stored x ≡ floor v scale) wher
     unfolding b
     all_is = ap₂ ◌+ℤ◌ (to_z-of_z most_fits ∙ most_is) parity
 
-    pub all_fits : SFits w64 all
+    all_fits : SFits w64 all
     all_fits = rw all_is (small_fits (rest v b low high + 8388607 + nat_abs b % 2) (omega (arith, rest-short v b low high)))
 
     more_is : quot_z (stored all) (pos 16777216) ≡ pos (carry v b low high)
     more_is = ap (λ z. quot_z z (pos 16777216)) (to_z-of_z all_fits ∙ all_is)
 
-    pub more_fits : SFits w64 (quot_z (stored all) (pos 16777216))
+    more_fits : SFits w64 (quot_z (stored all) (pos 16777216))
     more_fits = rw more_is (small_fits (carry v b low high) (omega (arith, rest-short v b low high)))
 
     sum_is : stored x +ℤ stored (quot_z (stored all) (pos 16777216)) ≡ round v

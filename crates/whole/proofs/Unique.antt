@@ -1,10 +1,8 @@
 -- No other whole number is what rounding gives.
-use Rattle.std.specs.Prelude.{◌≡◌, refl, Bool, true, false, cond, ℕ, zero, suc, ◌+◌, ◌*◌, ◌/◌, ◌%◌, ◌≤◌, T, eqb, ltb, ℤ, pos, negsuc, neg_ℤ, nat_abs, ◌+ℤ◌, ◌-ℤ◌, ◌*ℤ◌, ◌<ℤ◌}
-use Rattle.std.proofs.Common.{sym, ◌∙◌, ap, arith, ltb-true, ltb-false, eqb→eq}
-use Rattle.std.proofs.Math.Nat.{div-add-mod}
+use Rattle.std.specs.Prelude.{◌≡◌, refl, Bool, true, false, ℕ, ◌%◌, ◌≤◌, ℤ, pos, nat_abs, ◌+ℤ◌, ◌-ℤ◌, ◌*ℤ◌, ◌<ℤ◌}
+use Rattle.std.proofs.Common.{sym, ◌∙◌, ap, arith}
 use Rattle.std.specs.Int.Signed.{lt_z}
 use Rattle.whole.specs.AsNaturals.{as_ℕ, lt_z_true}
-use Rattle.whole.specs.Mirror.{mirrored, mirrored-neg, mirrored-size}
 use Rattle.whole.specs.Round.{scale, round, round_near, round-even, neighbours}
 
 -- how far scale times q is from v

@@ -1,14 +1,12 @@
 -- What fits a signed width, and a signed number read back from its bits. In a proof about code a signed local holds bits, so a goal shows
--- `to_z w (of_z w z)`; each law here takes that back to z. `search (needs, signed)` does so at one operation.
-use Rattle.std.specs.Prelude.{◌≡◌, ℕ, suc, ◌^◌, ◌<◌, ◌≤◌, T, ltb, ℤ, pos, negsuc, nat_abs, ◌*ℤ◌}
-use Rattle.std.proofs.Common.{sym, ◌∙◌, ap, div-le_self, mul-le-mul, arith, ltb→lt, to_z-of_z}
-use Rattle.std.specs.Int.Signed.{mag, mag_rem, mag_shr, shr_z, quot_z, rem_z}
+-- `to_z w (of_z w z)`; each law here takes that back to z.
+use Rattle.std.specs.Prelude.{◌≡◌, ℕ, ◌^◌, ◌<◌, ◌≤◌, T, ltb, ℤ, nat_abs}
+use Rattle.std.proofs.Common.{sym, ◌∙◌, ap, arith, ltb→lt, to_z-of_z}
+use Rattle.std.specs.Int.Signed.{mag}
 use Rattle.std.specs.Int.{Width, w32, w64}
 use mir.Val.{SFits, hbits, to_z, of_z}
-use mir.ValLaws.{sfits_le}
-use Rattle.std.proofs.Math.Facts.{sfits_widen}
-use Rattle.whole.specs.AsNaturals.{as_ℕ, as_ℕ_shut_abs}
-use Rattle.whole.specs.Size.{abs_mul, Within}
+use Rattle.whole.specs.AsNaturals.{as_ℕ}
+use Rattle.whole.specs.Size.{Within}
 
 -- ---- by the size
 pub fits_abs : {w : Width} {z : ℤ} → nat_abs z < 2 ^ hbits w → SFits w z
@@ -23,25 +21,6 @@ within_fits f = record { size = abs_fits f }
 -- a bound that is a literal computes: `fits_by (within_sub (within-mul ha hb) (within-mul hc hd)) tt`
 pub fits_by : {w : Width} {z : ℤ} {K : ℕ} → Within K z → T (ltb K (2 ^ hbits w)) → SFits w z
 fits_by {w} {z} {K} h t = fits_abs (omega (arith, h.size, ltb→lt K (2 ^ hbits w) t))
-
--- ---- by the operation
-pub fits_widen : (z : ℤ) → SFits w32 z → SFits w64 z
-fits_widen z f = sfits_widen tt f
-
-pub fits_floor : {w : Width} (z : ℤ) (d : ℕ) → SFits w z → SFits w (shr_z z d)
-fits_floor z d f = sfits_le (mag_shr z d) f
-
-pub fits_rem : {w : Width} (z d : ℤ) → SFits w z → SFits w (rem_z z d)
-fits_rem z d f = sfits_le (mag_rem z d) f
-
-pub fits_quot : {w : Width} (z : ℤ) (d : ℕ) → SFits w z → SFits w (quot_z z (pos d))
-fits_quot (pos a) d f = sfits_le (div-le_self a d) f
-fits_quot (negsuc a) d f = simp as_ℕ_shut_abs (omega (arith, div-le_self (suc a) d, simp as_ℕ_shut_abs at f))
-
-pub fits_product : (a b : ℤ) → SFits w32 a → SFits w32 b → SFits w64 (a *ℤ b)
-fits_product a b f g = fits_abs (rw abs_mul (omega (arith, mul-le-mul (abs_fits f) (abs_fits g))))
-
-pub ruleset signed = (fits_widen, fits_floor, fits_rem, fits_quot, fits_product)
 
 -- ---- read back
 pub read32 : (z : ℤ) → mag z < 2 ^ 31 → to_z w32 (of_z w32 z) ≡ z

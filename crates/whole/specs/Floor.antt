@@ -1,9 +1,9 @@
 -- Division rounded down by a positive number. The library's `shr_z` is it: at `negsuc a`, which is -(a + 1), it gives -(a / d + 1).
-use Rattle.std.specs.Prelude.{◌≡◌, ℕ, suc, ◌<◌, ℤ, pos, negsuc, neg_ℤ, ◌+ℤ◌, ◌-ℤ◌, ◌*ℤ◌, ◌≤ℤ◌, ◌<ℤ◌}
+use Rattle.std.specs.Prelude.{◌≡◌, ℕ, ◌<◌, ℤ, pos, negsuc, ◌+ℤ◌, ◌*ℤ◌, ◌≤ℤ◌, ◌<ℤ◌}
 use Rattle.std.proofs.Math.Nat.{div-add-mod}
 use Rattle.std.proofs.Common.{mod-lt, arith}
-use Rattle.std.specs.Int.Signed.{shr_z, quot_z, rem_z}
-use Rattle.whole.specs.AsNaturals.{as_ℕ, as_ℕ_shut_abs}
+use Rattle.std.specs.Int.Signed.{shr_z}
+use Rattle.whole.specs.AsNaturals.{as_ℕ}
 use Rattle.whole.specs.Order.{*ℤ-cancel_lt}
 
 -- z / d, rounded down
@@ -24,26 +24,3 @@ floor_unique z q d h l u =
     let a : q <ℤ (floor z d +ℤ pos 1) = *ℤ-cancel_lt d (simp as_ℕ (omega (arith, simp as_ℕ at l, simp as_ℕ at (floor_lt z d h)))) in
     let b : floor z d <ℤ (q +ℤ pos 1) = *ℤ-cancel_lt d (simp as_ℕ (omega (arith, simp as_ℕ at u, simp as_ℕ at (floor_le z d h)))) in
     simp as_ℕ (omega (arith, simp as_ℕ at a, simp as_ℕ at b))
-
--- ---- from division toward zero: the quotient, or one less where the remainder is negative
-pub quot_rem : (z : ℤ) (d : ℕ) → z ≡ pos d *ℤ quot_z z (pos d) +ℤ rem_z z (pos d)
-quot_rem (pos a) d = simp as_ℕ_shut_abs (omega (arith, div-add-mod a d))
-quot_rem (negsuc a) d = simp as_ℕ_shut_abs (omega (arith, div-add-mod (suc a) d))
-
-pub rem_short : (z : ℤ) (d : ℕ) → 0 < d → (rem_z z (pos d) <ℤ pos d) × (neg_ℤ (pos d) <ℤ rem_z z (pos d))
-rem_short (pos a) d h = simp as_ℕ_shut_abs (omega (arith, mod-lt a h))
-rem_short (negsuc a) d h = simp as_ℕ_shut_abs (omega (arith, mod-lt (suc a) h))
-
-pub quot_floor : (z : ℤ) (d : ℕ) → 0 < d → pos 0 ≤ℤ rem_z z (pos d) → quot_z z (pos d) ≡ floor z d
-quot_floor z d h r =
-    let e : z ≡ pos d *ℤ quot_z z (pos d) +ℤ rem_z z (pos d) = quot_rem z d in
-    floor_unique z (quot_z z (pos d)) d h
-    (simp as_ℕ (omega (arith, simp as_ℕ at e, simp as_ℕ at r)))
-    (simp as_ℕ (omega (arith, simp as_ℕ at e, simp as_ℕ at (rem_short z d h).0)))
-
-pub quot_less_floor : (z : ℤ) (d : ℕ) → 0 < d → rem_z z (pos d) <ℤ pos 0 → quot_z z (pos d) -ℤ pos 1 ≡ floor z d
-quot_less_floor z d h r =
-    let e : z ≡ pos d *ℤ quot_z z (pos d) +ℤ rem_z z (pos d) = quot_rem z d in
-    floor_unique z (quot_z z (pos d) -ℤ pos 1) d h
-    (simp as_ℕ (omega (arith, simp as_ℕ at e, simp as_ℕ at (rem_short z d h).1)))
-    (simp as_ℕ (omega (arith, simp as_ℕ at e, simp as_ℕ at r)))

@@ -10,6 +10,7 @@
 --     the rule of a constant table                         Table
 --     the list f 0 .. f (n - 1), tests over lists          Tab
 --     what a loop that stops early knows of a test         Tests
+--     what `any` over a range or a slice gives             Chains
 pub mod Difference
 pub mod AsNaturals
 pub mod Ring
@@ -28,3 +29,4 @@ pub mod Write
 pub mod Table
 pub mod Tab
 pub mod Tests
+pub mod Chains

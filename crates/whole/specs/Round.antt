@@ -1,11 +1,10 @@
 -- The rounding rule of a step. All numbers of a set are whole multiples of 1/4096 of the user's unit (document 01: grains). A step's raw
 -- numbers are in 1/16,777,216 of that; each is rounded to a whole number. Callers use `round` and `inexact` by the laws below, never by
 -- what stands behind them.
-use Rattle.std.specs.Prelude.{◌≡◌, refl, Bool, true, false, cond, ℕ, zero, suc, ◌+◌, ◌*◌, ◌/◌, ◌%◌, ◌≤◌, T, eqb, ltb, ℤ, pos, negsuc, neg_ℤ, nat_abs, ◌+ℤ◌, ◌-ℤ◌, ◌*ℤ◌, ◌<ℤ◌}
+use Rattle.std.specs.Prelude.{◌≡◌, refl, Bool, true, false, cond, ℕ, zero, suc, ◌+◌, ◌*◌, ◌/◌, ◌%◌, ◌≤◌, T, eqb, ltb, ℤ, pos, negsuc, neg_ℤ, nat_abs, ◌+ℤ◌, ◌-ℤ◌, ◌*ℤ◌}
 use Rattle.std.proofs.Common.{sym, ◌∙◌, ap, arith, ltb-true, ltb-false, eqb→eq}
 use Rattle.std.proofs.Math.Nat.{div-add-mod}
-use Rattle.std.specs.Int.Signed.{lt_z}
-use Rattle.whole.specs.AsNaturals.{as_ℕ, lt_z_true}
+use Rattle.whole.specs.AsNaturals.{as_ℕ}
 use Rattle.whole.specs.Mirror.{mirrored, mirrored-neg, mirrored-size}
 
 -- how many raw units make one unit in the last place, 4096²

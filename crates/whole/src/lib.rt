@@ -2,10 +2,7 @@
 // A function that could leave 64 bits asks, in its `requires`, that the result fits.
 #![tactic(auto)]
 
-ghost use Rattle.std.specs.Prelude.{◌≡◌, ◌+◌, ◌*◌, ◌%◌, ◌^◌, ◌≤◌, ◌<◌, pos, nat_abs, ◌+ℤ◌, ◌-ℤ◌, ◌*ℤ◌};
-ghost use Rattle.std.specs.Int.Signed.{lt_z};
-ghost use Rattle.std.specs.Int.{w64};
-ghost use Rattle.std.proofs.Common.{SFits};
+ghost use Rattle.std.specs.Prelude.{◌≡◌, ◌+◌, ◌*◌, ◌%◌, ◌^◌, ◌<◌, pos, nat_abs, ◌+ℤ◌, ◌*ℤ◌};
 ghost use Rattle.whole.specs.Floor.{floor};
 ghost use Rattle.whole.specs.Round.{scale, round, exact, inexact};
 ghost use Rattle.whole.specs.Half.{half, half_size};
@@ -13,77 +10,12 @@ ghost use Rattle.whole.specs.Half.{half, half_size};
 // The raw units of a step's numbers that make one unit in the last place: 4096 * 4096.
 const SCALE: i64 = 16777216;
 
-// A 32-bit number at 64 bits.
-pub fn widen(x: i32) -> i64
-    ensures { result ≡ x }
-{
-    x as i64
-}
-
-// A byte at 64 bits.
-pub fn widen_u8(x: u8) -> u64
-    ensures { (result ≡ x) × (result < 256) }
-{
-    x as u64
-}
-
-pub fn widen_u16(x: u16) -> u64
-    ensures { (result ≡ x) × (result < 65536) }
-{
-    x as u64
-}
-
-pub fn widen_u32(x: u32) -> u64
-    ensures { (result ≡ x) × (result < 4294967296) }
-{
-    x as u64
-}
-
-// |x|, at most 2^63.
-pub fn size(x: i64) -> u64
-    ensures { result ≡ nat_abs x }
-{
-    if x < 0 {
-        let below = -1 - x;
-        below as u64 + 1
-    } else {
-        x as u64
-    }
-}
-
-// |x|, at most 2^31.
-pub fn size_i32(x: i32) -> u64
-    ensures { (result ≡ nat_abs x) × (result ≤ 2147483648) }
-{
-    size(widen(x))
-}
-
-pub fn add(a: i64, b: i64) -> i64
-    requires { SFits w64 (a +ℤ b) }
-    ensures { result ≡ a +ℤ b }
-{
-    a + b
-}
-
-pub fn subtract(a: i64, b: i64) -> i64
-    requires { SFits w64 (a -ℤ b) }
-    ensures { result ≡ a -ℤ b }
-{
-    a - b
-}
-
 // One more product in a sum.
 pub fn multiply_add(sum: i64, a: i64, b: i64) -> i64
     requires { nat_abs sum + nat_abs a * nat_abs b < 2 ^ 63 }
     ensures { result ≡ sum +ℤ a *ℤ b }
 {
     sum + a * b
-}
-
-pub fn less(a: i64, b: i64) -> bool
-    ensures { result ≡ lt_z a b }
-{
-    a < b
 }
 
 // v / 16,777,216 rounded down, built from division toward zero: one less than the quotient where the remainder is negative.
@@ -108,10 +40,11 @@ pub fn round_scale(v: i64) -> i64
 fn odd(z: i64) -> i64
     ensures { result ≡ pos (nat_abs z % 2) }
 {
-    (size(z) % 2) as i64
+    (z.unsigned_abs() % 2).cast_signed()
 }
 
 // Whether rounding v loses nothing.
+#[tactic(auto, unfolding(crate::specs::Round::exact))]
 pub fn is_exact(v: i64) -> bool
     ensures { result ≡ exact v }
 {
@@ -119,13 +52,15 @@ pub fn is_exact(v: i64) -> bool
 }
 
 // 1 for an inexact rounding, 0 for an exact one.
+#[tactic(auto, unfolding(crate::specs::Round::inexact))]
 pub fn count_inexact(v: i64) -> u64
     ensures { result ≡ inexact v }
 {
-    if is_exact(v) { 0 } else { 1 }
+    u64::from(!is_exact(v))
 }
 
 // How far folding an even term with coefficient g moves the centre: g / 2, rounded toward zero.
+#[tactic(auto, unfolding(crate::specs::Half::half))]
 pub fn half(g: i64) -> i64
     ensures { result ≡ half g }
 {
@@ -133,9 +68,9 @@ pub fn half(g: i64) -> i64
 }
 
 // How much folding it widens the radius: |g| / 2, rounded up.
+#[tactic(auto, unfolding(crate::specs::Half::half_size))]
 pub fn half_size_up(g: i64) -> u64
     ensures { result ≡ half_size g }
 {
-    let n = size(g);
-    n / 2 + n % 2
+    g.unsigned_abs().div_ceil(2)
 }

@@ -10,12 +10,5 @@ pub fn entries_beyond(entries: &[i32], widths: &[u32]) -> bool
     requires { length entries.now ≤ length widths.now }
     ensures { result ≡ beyond_with entries.now widths.now }
 {
-    for i in 0..entries.len() {
-        let x = whole::size_i32(entries[i]);
-        let w = whole::widen_u32(widths[i]);
-        if MAX_ENTRY < x + w {
-            return true;
-        }
-    }
-    false
+    entries.iter().zip(widths).any(|(x, w)| MAX_ENTRY < u64::from(x.unsigned_abs()) + u64::from(*w))
 }

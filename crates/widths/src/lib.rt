@@ -8,11 +8,12 @@ ghost use Rattle.zonotope.specs.Record.{view};
 ghost use Rattle.raw.specs.Accepted.{InSpan};
 ghost use Rattle.image.specs.Remainder.{Below};
 ghost use Rattle.image.specs.Gaining.{Gaining};
-ghost use Rattle.widths.specs.Widths.{WidthsAccepted, widths_of, row_gain, form_gain, gain_at};
+ghost use Rattle.widths.specs.Widths.{WidthsAccepted, widths_of, row_gain, form_row, form_gain, gain_at};
 
 pub mod entries;
 mod spans;
 
+use core::array;
 use zonotope::PolyZonotope;
 
 // The half-widths of A, as A itself, are in 1/4096; products of two coordinates need no such factor.
@@ -24,20 +25,7 @@ pub fn gains(m: usize, n: usize, da: &[u32], dq: &[u32], s: PolyZonotope) -> [u6
     ensures { (result ≡ tab 6 (gain n (widths_of da.now dq.now) (view s))) × Gaining m result }
 {
     let spans = spans::of_set(s);
-    gains_from(m, n, da, dq, &spans)
-}
-
-// The same, from the spans.
-fn gains_from(m: usize, n: usize, da: &[u32], dq: &[u32], spans: &[u64; 6]) -> [u64; 6]
-    requires { WidthsAccepted m n da.now dq.now × Below 1048576 spans.now }
-    ensures { result ≡ tab 6 (gain_at n spans.now da.now dq.now) }
-{
-    let mut out = [0u64; 6];
-    for x in 0..6 {
-        let y = gain_at(m, n, da, dq, spans, x);
-        out[x] = y;
-    }
-    out
+    array::from_fn(|i| gain_at(m, n, da, dq, &spans, i))
 }
 
 // Of coordinate i; past the step's coordinates there are no half-widths.
@@ -48,21 +36,23 @@ fn gain_at(m: usize, n: usize, da: &[u32], dq: &[u32], spans: &[u64; 6], i: usiz
     if m <= i {
         return 0;
     }
-    let x = row_gain(da, i * n, n, UNIT, spans);
-    let y = form_gain(dq, i, n, spans);
-    x + y
+    row_gain(da, i * n, n, UNIT, spans) + form_gain(dq, i, n, spans)
 }
 
-// Of form i: the sum over j of row j's, with M_j as the factor.
+// Of form i: the sum over j of row j's.
 fn form_gain(dq: &[u32], i: usize, n: usize, spans: &[u64; 6]) -> u64
     requires { (i < 6) × (n ≤ 6) × ((i * n + n) * n ≤ length dq.now) × Below 32768 dq.now × Below 1048576 spans.now }
     ensures { (result ≡ form_gain n spans.now dq.now i) × (result ≤ 1297036692682702848) }
 {
-    let mut sum: u64 = 0;
-    for j in 0..n {
-        sum += row_gain(dq, (i * n + j) * n, n, spans[j], spans);
-    }
-    sum
+    (0..n).map(|j| form_row(dq, i, j, n, spans)).sum()
+}
+
+// Of row j of form i, with M_j as the factor.
+fn form_row(dq: &[u32], i: usize, j: usize, n: usize, spans: &[u64; 6]) -> u64
+    requires { (i < 6) × (j < n) × (n ≤ 6) × ((i * n + n) * n ≤ length dq.now) × Below 32768 dq.now × Below 1048576 spans.now }
+    ensures { result ≡ form_row n spans.now dq.now i j }
+{
+    row_gain(dq, (i * n + j) * n, n, spans[j], spans)
 }
 
 // Of a row of n half-widths: the sum over l of w·factor·M_l.
@@ -71,18 +61,7 @@ fn row_gain(widths: &[u32], from: usize, n: usize, factor: u64, spans: &[u64; 6]
         × Below 1048576 spans.now }
     ensures { (result ≡ row_gain n spans.now widths.now from factor) × (result ≤ 216172782113783808) }
 {
-    let mut sum: u64 = 0;
-    for l in 0..n {
-        sum += product(widths[from + l], factor, spans[l]);
-    }
-    sum
-}
-
-// w·factor·M.
-fn product(w: u32, factor: u64, span: u64) -> u64
-    requires { (w ≤ 32768) × (factor ≤ 1048576) × (span ≤ 1048576) }
-    ensures { result ≡ w * (factor * span) }
-{
-    let x = whole::widen_u32(w);
-    x * (factor * span)
+    (0..n)
+        .map(|l| u64::from(widths[from + l]) * (factor * spans[l]))
+        .sum()
 }

@@ -1,5 +1,5 @@
 -- Numbers in bytes.
 --     Number    laws of the numbers in bytes, of any width
---     Writing   what a loop knows that writes numbers one after the other
+--     Filling   what is said of a closure that gives the value of each place of a slice
 pub mod Number
-pub mod Writing
+pub mod Filling

@@ -48,7 +48,7 @@ countable m e =
     }
 
 -- the counts of a record are those of its set
-pub view-counts : (s : PolyZonotope) → bad_counts (view s) ≡ counts_out s.dimension s.factors s.terms s.generators
+pub view-counts : (s : PolyZonotope) → bad_counts (view s) ≡ counts_out s
 unfolding bad_counts view
 view-counts s = simp length-tab
 

@@ -14,9 +14,9 @@ use Rattle.zonotope.specs.declared.PolyZonotope.{PolyZonotope}
 use Rattle.arrays.specs.Rows.{row, column_sizes, span_at, identifier_out, sum-tab}
 use Rattle.arrays.specs.Spare.{in_rows, spare_ℕ, spare_ℤ}
 use Rattle.zonotope.specs.declared.Radii.{Radii}
-use Rattle.zonotope.specs.Record.{view, parts_of, wide_parts_of, totals_of, anew, firsts, first_parts, spare_parts}
-use Rattle.zonotope.specs.Shape.{PartLengths, Lengths}
-use Rattle.zonotope.specs.Causes.{range_out, spare_in, order_out}
+use Rattle.zonotope.specs.Record.{view, parts_of, wide_parts_of, totals_of, anew, firsts, first_parts, spare, spare_parts}
+use Rattle.zonotope.specs.Shape.{PartLengths, Sized}
+use Rattle.zonotope.specs.Causes.{range_out, order_out}
 use Rattle.whole.specs.Tests.{some_below, any-places, any_cong, all_cong, any_or}
 use Rattle.arrays.specs.Ascent.{rises_of}
 
@@ -60,12 +60,11 @@ anew-rounded z p q =
 -- ---- the causes of a refusal
 -- 6, 7 and 8, as the tests by place decide them
 pub view_range : (s : PolyZonotope)
-    → bad_range record_identifiers (view s) ≡ range_out s.identifiers s.exponents s.factors s.terms
+    → bad_range record_identifiers (view s) ≡ range_out s
 unfolding bad_range view
 view_range s = ap (any identifier_out (tab s.factors (λ i. get_or s.identifiers i 0)) ||◌) (any-places _ s.terms _)
 
-pub view-order : (s : PolyZonotope) → bad_order (view s) ≡
-    order_out s.identifiers s.exponents s.coefficients s.vectors s.dimension s.factors s.terms s.generators
+pub view-order : (s : PolyZonotope) → bad_order (view s) ≡ order_out s
 unfolding bad_order view
 view-order s =
     let a = not (rises ltb (tab s.factors (λ i. get_or s.identifiers i 0))) in
@@ -99,12 +98,12 @@ pub spare-parts : (r : Radii) (n : ℕ) → PartLengths r →
     || spare_ℕ r.given (length r.given) (λ i. ltb i n) ≡ spare_parts r n
 spare-parts r n z = rw (z.carried, z.rounded, z.folded, z.given)
 
-module _ (identifiers : List ℕ) (centre : List ℤ) (exponents : List ℕ) (coefficients vectors : List ℤ) (radii : Radii) (n p h q : ℕ) where
-  pub spare-places : Lengths identifiers centre exponents coefficients vectors radii →
-      spare_ℕ identifiers (length identifiers) (λ i. ltb i p)
-      || spare_ℤ centre (length centre) (in_rows 6 1 n)
-      || spare_ℕ exponents (length exponents) (in_rows 12 h p)
-      || spare_ℤ coefficients (length coefficients) (in_rows 6 h n)
-      || spare_ℤ vectors (length vectors) (in_rows 6 q n)
-      || spare_parts radii n ≡ spare_in identifiers centre exponents coefficients vectors radii n p h q
-  spare-places z = rw (z.identifiers, z.centre, z.exponents, z.coefficients, z.vectors, centre-row centre n)
+pub spare-places : (s : PolyZonotope) → Sized s →
+    spare_ℕ s.identifiers (length s.identifiers) (λ i. ltb i s.factors)
+    || spare_ℤ s.centre (length s.centre) (in_rows 6 1 s.dimension)
+    || spare_ℕ s.exponents (length s.exponents) (in_rows 12 s.terms s.factors)
+    || spare_ℤ s.coefficients (length s.coefficients) (in_rows 6 s.terms s.dimension)
+    || spare_ℤ s.vectors (length s.vectors) (in_rows 6 s.generators s.dimension)
+    || spare_parts s.radii s.dimension ≡ spare s
+unfolding spare
+spare-places s z = rw (z.identifiers, z.centre, z.exponents, z.coefficients, z.vectors, centre-row s.centre s.dimension)

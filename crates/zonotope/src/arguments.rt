@@ -14,10 +14,5 @@ pub fn bad_dimension(n: usize) -> bool
 pub fn entries_beyond(xs: &[i32], limit: u64) -> bool
     ensures { result ≡ any (beyond limit) xs.now }
 {
-    for i in 0..xs.len() {
-        if limit < whole::size_i32(xs[i]) {
-            return true;
-        }
-    }
-    false
+    xs.iter().any(|x| limit < u64::from(x.unsigned_abs()))
 }

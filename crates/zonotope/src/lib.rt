@@ -2,12 +2,13 @@
 #![tactic(auto)]
 
 ghost use Rattle.std.specs.Prelude.{◌≡◌};
-ghost use Rattle.model.specs.Valid.{bad_counts};
+ghost use Rattle.model.specs.Valid.{bad_counts, is_too_wide};
 ghost use Rattle.model.specs.Run.{no_set};
 ghost use Rattle.model.specs.Library.{examine};
 ghost use Rattle.zonotope.specs.Record.{view, pack, given};
+ghost use Rattle.zonotope.specs.Counts.{InLimits};
 ghost use Rattle.zonotope.specs.Shape.{Sized};
-ghost use Rattle.zonotope.specs.Answer.{examined};
+ghost use Rattle.zonotope.specs.Answer.{Accepted, examined, number_of};
 
 pub mod arguments;
 mod causes;
@@ -61,101 +62,113 @@ pub struct PolyZonotope {
     pub radii: Radii,
 }
 
-// What examining a set says: it is valid, or it is refused with document 01's number.
-#[derive(Clone, Copy)]
-pub enum Examined {
-    Accepted,
-    Refused(u8),
+// What refuses a set, a call or a field, in the order of document 01's numbers.
+#[derive(Clone, Copy, PartialEq, Eq, Debug)]
+pub enum Cause {
+    Ended,
+    Tag,
+    Length,
+    Count,
+    Dimension,
+    Range,
+    Form,
+    SetTooWide,
+    TooManyFactors,
+    ResultTooWide,
+    NextIdentifier,
+    TooManyFields,
+    WorkTooShort,
+    EmptyDisturbance,
+}
+
+impl Cause {
+    // Document 01's number of the cause, from 1 to 14.
+    pub fn number(self) -> u8
+        ensures { result ≡ number_of self }
+    {
+        match self {
+            Cause::Ended => 1,
+            Cause::Tag => 2,
+            Cause::Length => 3,
+            Cause::Count => 4,
+            Cause::Dimension => 5,
+            Cause::Range => 6,
+            Cause::Form => 7,
+            Cause::SetTooWide => 8,
+            Cause::TooManyFactors => 9,
+            Cause::ResultTooWide => 10,
+            Cause::NextIdentifier => 11,
+            Cause::TooManyFields => 12,
+            Cause::WorkTooShort => 13,
+            Cause::EmptyDisturbance => 14,
+        }
+    }
 }
 
 // The record of no set: every count and every place is 0.
 pub fn empty() -> PolyZonotope
     ensures { result ≡ pack no_set }
 {
-    let identifiers = [0u32; 12];
-    let centre = [0i32; 6];
-    let exponents = [0u8; 480];
-    let coefficients = [0i32; 240];
-    let vectors = [0i32; 144];
     let none = [0u32; 6];
-    let radii = Radii {
-        carried: none,
-        rounded: none,
-        folded: none,
-        given: none,
-    };
     PolyZonotope {
         dimension: 0,
         factors: 0,
         terms: 0,
         generators: 0,
-        identifiers,
-        centre,
-        exponents,
-        coefficients,
-        vectors,
-        radii,
+        identifiers: [0; 12],
+        centre: [0; 6],
+        exponents: [0; 480],
+        coefficients: [0; 240],
+        vectors: [0; 144],
+        radii: Radii {
+            carried: none,
+            rounded: none,
+            folded: none,
+            given: none,
+        },
     }
 }
 
 // The first cause that refuses the set, if any.
-pub fn examine(s: PolyZonotope) -> Examined
+pub fn examine(s: PolyZonotope) -> Result<(), Cause>
     ensures value { result ≡ examined (examine (given s)) }
-    ensures sized { result ≡ Examined.Accepted → Sized s }
+    ensures sized { result ≡ Accepted → Sized s }
 {
-    let n = s.dimension;
-    let p = s.factors;
-    let h = s.terms;
-    let q = s.generators;
-    let radii = s.radii;
-    if causes::counts_out(n, p, h, q) {
-        return Examined::Refused(4);
+    if causes::counts_out(&s) {
+        return Err(Cause::Count);
     }
-    if causes::range_out(&s.identifiers, &s.exponents, p, h) {
-        return Examined::Refused(6);
+    if causes::range_out(&s) {
+        return Err(Cause::Range);
     }
-    if causes::has_spare(
-        &s.identifiers,
-        &s.centre,
-        &s.exponents,
-        &s.coefficients,
-        &s.vectors,
-        radii,
-        n,
-        p,
-        h,
-        q,
-    ) | causes::order_out(
-        &s.identifiers,
-        &s.exponents,
-        &s.coefficients,
-        &s.vectors,
-        n,
-        p,
-        h,
-        q,
-    ) {
-        return Examined::Refused(7);
+    if causes::has_spare(&s) | causes::order_out(&s) {
+        return Err(Cause::Form);
     }
-    let totals = parts::totals(radii);
-    if span::too_wide(
+    if too_wide(&s) {
+        return Err(Cause::SetTooWide);
+    }
+    Ok(())
+}
+
+// 8: whether the span of a coordinate exceeds the limit.
+pub fn too_wide(s: &PolyZonotope) -> bool
+    requires { InLimits s.now }
+    ensures { result ≡ is_too_wide (view s.now) }
+{
+    span::too_wide(
         &s.centre,
         &s.coefficients,
         &s.vectors,
-        &totals,
-        n,
-        h,
-        q,
+        &parts::totals(s.radii),
+        s.dimension,
+        s.terms,
+        s.generators,
         MAX_SPAN,
-    ) {
-        return Examined::Refused(8);
-    }
-    Examined::Accepted
+    )
 }
 
 // 4: whether a count is out of limits.
 pub fn bad_counts(s: PolyZonotope) -> bool
     ensures { result ≡ bad_counts (view s) }
 {
-    causes::counts_out(s.dimension, s.factors, s.terms, s.generators)
+    causes::counts_out(&s)
 }

@@ -1,5 +1,5 @@
 // The radii from their parts.
-ghost use Rattle.std.specs.Prelude.{◌≡◌, ℕ, ◌+◌, ◌≤◌, get_or};
+ghost use Rattle.std.specs.Prelude.{◌≡◌, ℕ, ◌≤◌, get_or};
 ghost use Rattle.arrays.specs.Rows.{most_radius};
 ghost use Rattle.zonotope.specs.Record.{totals_of, anew};
 
@@ -9,22 +9,13 @@ use crate::{Radii, WideRadii};
 pub fn totals(r: Radii) -> [u64; 6]
     ensures { (result ≡ totals_of r) × ((i : ℕ) → get_or result i 0 ≤ most_radius) }
 {
-    let mut out = [0u64; 6];
-    let carried = r.carried;
-    let rounded = r.rounded;
-    let folded = r.folded;
-    let given = r.given;
-    for i in 0..6 {
-        out[i] = sum(carried[i], rounded[i], folded[i], given[i]);
+    let mut totals = [0u64; 6];
+    for (i, total) in totals.iter_mut().enumerate() {
+        let made = u64::from(r.carried[i]) + u64::from(r.rounded[i]);
+        let later = u64::from(r.folded[i]) + u64::from(r.given[i]);
+        *total = made + later;
     }
-    out
-}
-
-// Four parts together.
-fn sum(c: u32, d: u32, f: u32, g: u32) -> u64
-    ensures { (result ≡ c + d + f + g) × (result ≤ most_radius) }
-{
-    whole::widen_u32(c) + whole::widen_u32(d) + whole::widen_u32(f) + whole::widen_u32(g)
+    totals
 }
 
 // The radii of a result that makes its parts anew: nothing is folded yet, and nothing was given.

@@ -4,18 +4,15 @@ use Rattle.zonotope.specs.Record.{wide_parts_of}
 use Rattle.align.specs.Joins.{joins_centre, joins_radii, joins_centre_small, joins_radii_small}
 use Rattle.align.proofs.join.Goals as goal
 
-pub join_terms-terms-requires : goal.join_terms-terms-requires
-join_terms-terms-requires c =
+pub join_terms-requires : goal.join_terms-requires
+join_terms-requires c =
     let p = c.requires in
     (p.0, p.1, p.2, p.3.exponents-long, p.3.numbers-long, p.3.numbers_small)
 
-pub join_generators-generators-requires : goal.join_generators-generators-requires
-join_generators-generators-requires c =
+pub join_generators-requires : goal.join_generators-requires
+join_generators-requires c =
     let p = c.requires in
     (p.0, p.1, p.3.generators_long, p.3.generators_small)
-
-pub add_radii-radii-requires : goal.add_radii-radii-requires
-add_radii-radii-requires c = tt
 
 pub returns : goal.returns
 returns c =
@@ -25,10 +22,10 @@ returns c =
     let ids = s.args.ids.now in
     record {
       common = s.requires.2;
-      terms = c.join_terms-terms.ensures;
-      generators = c.join_generators-generators.ensures ids;
-      centre = c.add_centres-centre.ensures ∙ joins_centre a b s.requires.0 s.requires.1 ids;
-      radii = ap wide_parts_of c.add_radii-radii.ensures ∙ joins_radii a b s.requires.0 s.requires.1 ids;
+      terms = c.join_terms.ensures;
+      generators = c.join_generators.ensures ids;
+      centre = c.add_centres.ensures ∙ joins_centre a b s.requires.0 s.requires.1 ids;
+      radii = ap wide_parts_of c.add_radii.ensures ∙ joins_radii a b s.requires.0 s.requires.1 ids;
       centre_small = joins_centre_small a b s.requires.0 s.requires.1 ids;
       radii_small = joins_radii_small a b s.requires.0 s.requires.1 ids;
     }

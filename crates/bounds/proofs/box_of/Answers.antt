@@ -1,35 +1,19 @@
 -- `box_of` meets its contract.
-use mathlib.Core.Path.{◌≡◌, sym, ◌∙◌}
+use Rattle.std.specs.Prelude.{refl}
 use Rattle.zonotope.specs.Record.{view}
-use Rattle.zonotope.specs.Record.{given}
-use Rattle.zonotope.specs.Counts.{InLimits, in_limits}
+use Rattle.zonotope.specs.Counts.{in_limits}
 use Rattle.zonotope.specs.Valid.{valid}
-use Rattle.zonotope.specs.Answer.{accepted, refused-with}
-use Rattle.model.specs.Library.{examine}
-use mathlib.Core.Option.{none}
-use Rattle.bounds.specs.Answer.{bounds_of, box-accepted, box-refused}
+use Rattle.zonotope.specs.Answer.{nothing_found, passed_on}
+use Rattle.bounds.specs.Answer.{bounds_of, boxed}
 use Rattle.bounds.proofs.box_of.Goals as goal
-use Rattle.bounds.proofs.box_of.Goals.{In-Accepted}
 
-module _ (s : In-Accepted) where
-  no_cause : examine (given s.args.s) ≡ none
-  no_cause = accepted _ (sym s.examine-outcome.ensures.value ∙ s.in-Accepted.is)
-
-  limits : InLimits s.args.s
-  limits = in_limits _ (valid _ no_cause).counts
-
-pub ends_of-ends-requires : goal.ends_of-ends-requires
-ends_of-ends-requires c = limits c
-
-pub returns-in-Refused : goal.returns-in-Refused
+pub returns-in_err-examine : goal.returns-in_err-examine
 unfolding bounds_of
-returns-in-Refused c =
-    let told = c.examine-outcome.ensures.value in
-    let s = c.args.s in
-    box-refused (view s) (examine (given s)) _ (refused-with _ _ (sym told ∙ c.in-Refused.is)) told
+returns-in_err-examine c = passed_on (λ o. boxed o (view c.args.s)) (λ n. refl) _ c.in_err-examine.ensures.value c.from_residual.ensures.1
 
-pub returns-in-Accepted : goal.returns-in-Accepted
+pub ends_of-requires : goal.ends_of-requires
+ends_of-requires c = in_limits _ (valid _ (nothing_found _ c.in_ok-examine.ensures.value)).counts
+
+pub returns : goal.returns
 unfolding bounds_of view
-returns-in-Accepted c =
-    let set = view c.args.s in
-    box-accepted set _ (no_cause (goal.at.returns-in-Accepted c).In-Accepted) c.examine-outcome.ensures.value c.ends_of-ends.ensures.0 c.ends_of-ends.ensures.1
+returns c = rw (nothing_found _ c.in_ok-examine.ensures.value, c.ends_of.ensures.0, c.ends_of.ensures.1)

@@ -1,12 +1,7 @@
 -- `factors::squeeze_row` meets its contract: each place is written once.
-use mathlib.Core.Path.{◌≡◌}
-use Prim.Native.Nat.{◌+◌, ◌-◌, ◌*◌, ◌≤◌}
-use lib.ListN.{get_or}
+use Rattle.std.proofs.Common.{◌≡◌, ◌+◌, ◌*◌, get_or}
 use Rattle.whole.specs.Write.{write}
 use Rattle.factors.proofs.squeeze_row.Given as goal
 
 abbrev pub invariant-loop-i : goal.invariant-loop-i
-invariant-loop-i l = (l.i ≤ l.count) × (l.out ≡ write l.initial.out (l.k * 12) (λ i. get_or l.e (l.x * 12 + get_or l.places i 0) 0) l.i)
-
-abbrev pub decreases-loop-i : goal.decreases-loop-i
-decreases-loop-i l = l.count - l.i
+invariant-loop-i l = l.out ≡ write l.initial.out (l.k * 12) (λ i. get_or l.e (l.x * 12 + get_or l.places i 0) 0) l.i

@@ -5,4 +5,4 @@ use Rattle.states.specs.declared.State.{State}
 use Rattle.feeding.proofs.begin.Goals as goal
 
 pub returns : goal.returns
-returns c = ap (λ (s : State). record { state = s; place = 0; done = false }) c.begin-state.ensures
+returns c = ap (λ (s : State). record { state = s; place = 0; done = false }) c.begin.ensures

@@ -4,4 +4,4 @@ use Rattle.feeding.proofs.First.{cut-first}
 use Rattle.feeding.proofs.is_whole.Goals as goal
 
 pub returns : goal.returns
-returns c = let h = c.read-h.ensures in (h.whole ∙ cut-first _, h.left)
+returns c = let h = c.read.ensures in (h.whole ∙ cut-first _, h.left)

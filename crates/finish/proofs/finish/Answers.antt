@@ -1,7 +1,5 @@
 -- `finish::finish` meets its contract, by the set that is left in rows.
-use mathlib.Core.Path.{sym, ap, ◌∙◌}
-use mathlib.Core.Bool.{false}
-use Rattle.zonotope.specs.declared.PolyZonotope.{PolyZonotope}
+use mathlib.Core.Path.{sym, ◌∙◌}
 use Rattle.finish.specs.Answer.{dimension_few, packable, refused, accepted}
 use Rattle.finish.proofs.finish.Goals as goal
 
@@ -10,7 +8,7 @@ too_wide-requires c =
     let a = c in
     let s = a in
     let v = a.reduce-k.ensures in
-    (dimension_few s.args.weights s.args.term_limit s.args.generator_limit v s.requires.1, s.requires.0.radii_small, v.sized)
+    (dimension_few s.args.limits.weights s.args.limits.terms s.args.limits.generators v s.requires.1, s.requires.0.radii_small, v.sized)
 
 pub returns-then-too_wide : goal.returns-then-too_wide
 returns-then-too_wide c =
@@ -18,8 +16,7 @@ returns-then-too_wide c =
     let a = t in
     let s = a in
     let k = a.reduce-k.auto in record {
-      value = ap (λ (r : PolyZonotope). record { narrow = false; set = r }) c.empty-set.ensures
-          ∙ refused s.args.weights s.args.term_limit s.args.generator_limit a.reduce-k.ensures s.requires.1
+      value = refused s.args.limits.weights s.args.limits.terms s.args.limits.generators a.reduce-k.ensures s.requires.1
           (sym (t.too_wide.ensures _ _) ∙ c.if-too_wide.true);
       places = k.places;
       heads = k.heads;
@@ -27,12 +24,12 @@ returns-then-too_wide c =
       generators = k.g;
     }
 
-pub pack-set-requires : goal.pack-set-requires
-pack-set-requires c =
+pub pack-requires : goal.pack-requires
+pack-requires c =
     let t = c in
     let a = t in
     let s = a in
-    packable s.args.weights s.args.term_limit s.args.generator_limit a.reduce-k.ensures s.requires.1
+    packable s.args.limits.weights s.args.limits.terms s.args.limits.generators a.reduce-k.ensures s.requires.1
     (sym (t.too_wide.ensures _ _) ∙ c.if-too_wide.false)
 
 pub returns : goal.returns
@@ -41,8 +38,8 @@ returns c =
     let a = t in
     let s = a in
     let k = a.reduce-k.auto in record {
-      value = accepted s.args.weights s.args.term_limit s.args.generator_limit a.reduce-k.ensures s.requires.1
-          (sym (t.too_wide.ensures _ _) ∙ c.if-too_wide.false) c.pack-set.ensures;
+      value = accepted s.args.limits.weights s.args.limits.terms s.args.limits.generators a.reduce-k.ensures s.requires.1
+          (sym (t.too_wide.ensures _ _) ∙ c.if-too_wide.false) c.pack.ensures;
       places = k.places;
       heads = k.heads;
       rows = k.s;

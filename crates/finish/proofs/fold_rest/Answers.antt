@@ -49,8 +49,8 @@ returns c =
     let x = d.fold_generators-kept.ensures.generators_passed in
     let terms_few = w.1 in
     let generators_few = x.1 in
-    rest_holds s.args.u s.args.heads.now s.args.s.now s.args.g.now s.args.weights s.args.term_limit
-    s.args.generator_limit
+    rest_holds s.args.u s.args.heads.now s.args.s.now s.args.g.now s.args.limits.weights s.args.limits.terms
+    s.args.limits.generators
     v w.0 x.0
     s.requires.0.few (omega (arith, terms_few, s.requires.1.term-limit)) s.requires.1.generators_few
     (omega (arith, generators_few, s.requires.1.generator-limit)) s.requires.1.generators_long

@@ -33,5 +33,5 @@ returns c =
     let s = a in
     let g = s.args in
     holds_as d.fold_rest.ensures
-    (reduced-from g.u (core_of g.u.centre g.u.radii.folded) _ _ g.weights g.generator_limit g.term_limit
+    (reduced-from g.u (core_of g.u.centre g.u.radii.folded) _ _ g.limits.weights g.limits.generators g.limits.terms
     a.gather-n.ensures.is b.drop_zero_rows-m.ensures.upper_bound.1)

@@ -12,4 +12,4 @@ returns-then-even c = rw c.if-even.true (c.half_size_up.ensures ∙ ap half_size
 
 pub returns-else-even : goal.returns-else-even
 unfolding growth
-returns-else-even c = rw c.if-even.false (c.size.ensures ∙ ap nat_abs (to_z-of_z c.ranges.g))
+returns-else-even c = rw c.if-even.false (c.unsigned_abs.ensures.value ∙ ap nat_abs (to_z-of_z c.ranges.g))

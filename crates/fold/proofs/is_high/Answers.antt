@@ -10,4 +10,4 @@ returns c =
     let s = c in
     let g = s.args in
     ap not c.clear_of.ensures
-    ∙ row-high g.e.now g.x (bytes_of s.shared_slice_known-1.given)
+    ∙ row-high g.e.now g.x (bytes_of c.type_inv.e)

@@ -1,6 +1,6 @@
 -- `fold::keep_rows` meets its contract, by the laws of `Keeping`.
 use mathlib.Core.Path.{◌≡◌}
-use Prim.Native.Nat.{ℕ, ◌-◌, ◌≤◌}
+use Prim.Native.Nat.{ℕ}
 use lib.ListN.{length}
 use Rattle.rows.specs.Rows.{number_row, Small}
 use Rattle.fold.specs.Marks.{unmarked}
@@ -9,7 +9,4 @@ use Rattle.fold.proofs.keep_rows.Given as goal
 
 abbrev pub invariant-loop-k : goal.invariant-loop-k
 invariant-loop-k l =
-    (l.k ≤ l.n) × (length l.s ≡ length l.initial.s) × Keeping number_row (unmarked l.gone) l.initial.s l.s l.m l.k × ((b : ℕ) → Small b l.initial.s → Small b l.s)
-
-abbrev pub decreases-loop-k : goal.decreases-loop-k
-decreases-loop-k l = l.n - l.k
+    (length l.s ≡ length l.initial.s) × Keeping number_row (unmarked l.gone) l.initial.s l.s l.m l.k × ((b : ℕ) → Small b l.initial.s → Small b l.s)

@@ -1,52 +1,70 @@
 -- `fold::row_size` meets its contract: the sum grows at its end.
-use native.Mathlib.Omega.{arith}
-use borrow.Author.Rules.{rules}
-use mathlib.Core.Path.{◌≡◌, sym, ap, ap₂, ◌∙◌}
-use Prim.Native.Nat.{ℕ, ◌+◌, ◌*◌}
-use lib.ListN.{length, get_or}
-use lib.IntN.{ℤ, pos, nat_abs}
-use Rattle.whole.specs.Fits.{read64}
+use Rattle.std.proofs.Common.{◌≡◌, ℕ, ◌+◌, ◌*◌, ◌^◌, ◌≤◌, sym, ap, ap₂, ◌∙◌, length, get_or, pos, nat_abs, arith, rules}
+use Rattle.std.proofs.lemmas.List.{length_push}
+use Rattle.std.proofs.lemmas.Slice.Zip.{zip_turn, zip_end}
 use Rattle.whole.specs.Sum.{upto_by, upto_ℕ, upto_suc}
-use Rattle.fold.specs.Row.{size-tab}
+use Rattle.fold.specs.Row.{weighed, size-six, held_size}
 use Rattle.fold.proofs.row_size.Goals as goal
 
-pub loop-j-init : goal.loop-j-init
+pub loop-weight-init : goal.loop-weight-init
 unfolding upto_by
-loop-j-init c = search rules
+loop-weight-init c = (search rules, search rules)
 
-pub add_weighed-sum-requires : goal.add_weighed-sum-requires
-add_weighed-sum-requires c =
-    let at = c in
-    let g = at.args in
-    let i = g.k * 6 + at.loop-j.j in
-    let few = at.loop-j.invariant.2 in (
-      omega (arith, few),
-      at.requires.2.under at.loop-j.j,
-      rw (read64 (get_or g.s.now i (pos 0)) c.g-1.given) (at.requires.1.small i),
-    )
+pub overflow_mul-sum : goal.overflow_mul-sum
+overflow_mul-sum c =
+    let ws = c.args.weights.now in
+    let row = c.args.row.now in
+    let k = length c.loop-weight.yielded in
+    let t = zip_turn ws row c.loop-weight.yielded c.into_iter-weight-iterator.result _ c.next.new.self _ (cc) (cc) c.loop-weight.yielded_by _ c.in-Some.is c.next.ensures.steps in
+    let w : c.in-Some.weight.now ≡ get_or ws k 0 = t.2 0 in
+    let q : nat_abs (get_or row k (pos 0)) ≤ 2 ^ 50 = c.requires.1.small k in
+    let m : c.unsigned_abs.result ≡ nat_abs (get_or row k (pos 0)) =
+    c.unsigned_abs.ensures.value ∙ held_size (t.3 (pos 0)) (omega arith) in
+    let small = weighed c.in-Some.weight.now c.unsigned_abs.result (omega (arith, w, c.requires.2.under k)) (omega arith) in
+    record { fits = omega arith }
 
-pub loop-j-preserved : goal.loop-j-preserved
-loop-j-preserved c =
-    let at = c in
-    let g = at.args in
-    let j = at.loop-j.j in
-    let v = get_or g.s.now (g.k * 6 + j) (pos 0) in
-    let few = at.loop-j.invariant.2 in
-    let f : ℕ → ℕ = λ i. get_or g.weights i 0 * nat_abs (get_or g.s.now (g.k * 6 + i) (pos 0)) in (
+pub overflow_add-sum : goal.overflow_add-sum
+overflow_add-sum c =
+    let ws = c.args.weights.now in
+    let row = c.args.row.now in
+    let k = length c.loop-weight.yielded in
+    let t = zip_turn ws row c.loop-weight.yielded c.into_iter-weight-iterator.result _ c.next.new.self _ (cc) (cc) c.loop-weight.yielded_by _ c.in-Some.is c.next.ensures.steps in
+    let w : c.in-Some.weight.now ≡ get_or ws k 0 = t.2 0 in
+    let q : nat_abs (get_or row k (pos 0)) ≤ 2 ^ 50 = c.requires.1.small k in
+    let m : c.unsigned_abs.result ≡ nat_abs (get_or row k (pos 0)) =
+    c.unsigned_abs.ensures.value ∙ held_size (t.3 (pos 0)) (omega arith) in
+    let small = weighed c.in-Some.weight.now c.unsigned_abs.result (omega (arith, w, c.requires.2.under k)) (omega arith) in
+    let few = c.loop-weight.invariant.1 in
+    let more = t.1 in
+    let six = c.requires.0 in
+    record { fits = omega arith }
+
+pub loop-weight-preserved : goal.loop-weight-preserved
+loop-weight-preserved c =
+    let ws = c.args.weights.now in
+    let row = c.args.row.now in
+    let k = length c.loop-weight.yielded in
+    let t = zip_turn ws row c.loop-weight.yielded c.into_iter-weight-iterator.result _ c.next.new.self _ (cc) (cc) c.loop-weight.yielded_by _ c.in-Some.is c.next.ensures.steps in
+    let w : c.in-Some.weight.now ≡ get_or ws k 0 = t.2 0 in
+    let q : nat_abs (get_or row k (pos 0)) ≤ 2 ^ 50 = c.requires.1.small k in
+    let m : c.unsigned_abs.result ≡ nat_abs (get_or row k (pos 0)) =
+    c.unsigned_abs.ensures.value ∙ held_size (t.3 (pos 0)) (omega arith) in
+    let small = weighed c.in-Some.weight.now c.unsigned_abs.result (omega (arith, w, c.requires.2.under k)) (omega arith) in
+    let f : ℕ → ℕ = λ i. get_or ws i 0 * nat_abs (get_or row i (pos 0)) in
+    let long = length_push c.loop-weight.yielded (c.in-Some.weight, c.in-Some.g) in
+    let few = c.loop-weight.invariant.1 in (
+      ap₂ ◌+◌ c.loop-weight.invariant.0 (ap₂ ◌*◌ w m) ∙ sym (upto_suc 0 ◌+◌ f k) ∙ ap (upto_ℕ f) (sym long),
       omega arith,
-      c.add_weighed-sum.ensures.0
-          ∙ ap₂ (λ (a : ℕ) (z : ℤ). a + get_or g.weights j 0 * nat_abs z) at.loop-j.invariant.1 (read64 v c.g-1.given)
-          ∙ sym (upto_suc 0 ◌+◌ f j),
-      omega (arith, few, c.add_weighed-sum.ensures.1),
     )
 
 pub returns : goal.returns
 returns c =
-    let at = c in
-    let g = at.args in
-    let e : at.loop-j.j ≡ 6 = omega arith in
-    let l : length g.weights ≡ 6 = search rules in
-    let f : ℕ → ℕ = λ i. get_or g.weights i 0 * nat_abs (get_or g.s.now (g.k * 6 + i) (pos 0)) in (
-      at.loop-j.invariant.1 ∙ ap (upto_ℕ f) e ∙ sym (size-tab g.weights 6 (λ i. get_or g.s.now (g.k * 6 + i) (pos 0)) l),
-      omega (arith, at.loop-j.invariant.2),
+    let ws = c.args.weights.now in
+    let row = c.args.row.now in
+    let t = zip_end ws row c.loop-weight.yielded c.into_iter-weight-iterator.result _ c.next.new.self _ (cc) (cc) c.loop-weight.yielded_by c.in-None.is c.next.ensures.steps in
+    let six : length ws ≡ 6 = c.told-weights in
+    let e : length c.loop-weight.yielded ≡ 6 = omega (arith, t, six, c.requires.0) in
+    let f : ℕ → ℕ = λ i. get_or ws i 0 * nat_abs (get_or row i (pos 0)) in (
+      c.loop-weight.invariant.0 ∙ ap (upto_ℕ f) e ∙ sym (size-six ws row six c.requires.0),
+      omega (arith, e, c.loop-weight.invariant.1),
     )

@@ -1,68 +1,71 @@
 -- `forms::dot_rows` meets its contract: six products of 21-bit and 39-bit numbers.
-use borrow.Author.Rules.{rules}
-use native.Mathlib.Omega.{arith}
-use mathlib.Core.Path.{◌≡◌, sym, ap, ◌∙◌}
-use Prim.Native.Nat.{ℕ, ◌+◌, ◌*◌, ◌≤◌}
-use lib.IntN.{nat_abs}
-use mir.Syntax.{w64}
-use mir.Val.{of_z, to_z}
-use Rattle.whole.specs.Fits.{read32, read64, got64}
+use Rattle.std.proofs.Common.{rules, ◌≡◌, ℕ, ◌+◌, ◌*◌, ◌≤◌, ◌<◌, length, sym, ◌∙◌, ap, arith, nat_abs, pos, to_z, of_z, w32, w64, to_z-of_z, ◌++◌, ◌∷◌, []}
+use Rattle.std.specs.List.{between}
+use Rattle.std.proofs.lemmas.List.Edits.{length-between, get_or-between}
+use Rattle.std.proofs.lemmas.Slice.Zip.{zip_turn, zip_end}
+use Rattle.std.proofs.lemmas.List.{length_push}
+use Rattle.whole.specs.Fits.{fits_abs, got64}
 use Rattle.model.specs.Step.{dot}
 use Rattle.forms.specs.Dot.{Vector, dot_none}
 use Rattle.forms.specs.Tables.{row_of}
 use Rattle.forms.specs.Products.{sum_fits, sum_goes_on}
 use Rattle.forms.proofs.dot_rows.Goals as goal
-use Rattle.forms.proofs.dot_rows.Lts as lts
-use Rattle.forms.proofs.dot_rows.Tie as tie
-use Rattle.forms.proofs.dot_rows.Reads as reads
+use Rattle.forms.proofs.dot_rows.Goals.{After-from}
 
-module _ (z : lts.Start tie.the-claims reads.Pre reads.Post goal.the-invariant-loop-j goal.the-decreases-loop-j) where
+module _ (c : After-from) where
+  abbrev j : ℕ
+  j = length c.loop-x.yielded
+
   abbrev p : Vector
-  p = row_of z.args.u.now z.args.s
+  p = row_of c.args.u.now c.args.s
 
   abbrev u : Vector
-  u = row_of z.args.v.now z.args.t
+  u = row_of c.args.v.now c.args.t
 
   p_small : (y : ℕ) → nat_abs (p y) ≤ 1048576
-  p_small y = z.requires.4.small (z.args.s * 6 + y)
+  p_small y = c.requires.4.small (c.args.s * 6 + y)
 
   u_small : (y : ℕ) → nat_abs (u y) ≤ 412451078144
-  u_small y = z.requires.5.small (z.args.t * 6 + y)
+  u_small y = c.requires.5.small (c.args.t * 6 + y)
 
-x_is : (c : lts.After-widen tie.the-claims reads.Pre reads.Post goal.the-invariant-loop-j goal.the-decreases-loop-j) →
-    let l = c in
-    to_z w64 (of_z w64 c.widen-x.result) ≡ p c.before.before.before.before l.loop-j.j
-x_is c = got64 (c.widen-x.ensures ∙ read32 _ c.widen-arg-1.given) c.widen-x.type_inv
+  -- the two numbers that this turn takes
+  turn : (j < 6) × (c.in-Some.x.now ≡ p j) × (c.in-Some.y.now ≡ u j)
+  turn =
+      let t = zip_turn (between (c.args.s * 6) (c.args.s * 6 + 6) c.args.u.now) (between (c.args.t * 6) (c.args.t * 6 + 6) c.args.v.now)
+      c.loop-x.yielded c.into_iter-x-iterator.result c.loop-x.x-iterator c.next.new.self c.next.result (cc) (cc) c.loop-x.yielded_by (c.in-Some.x, c.in-Some.y) c.in-Some.is c.next.ensures.steps in
+      let l : j < 6 = omega (arith, t.0, length-between c.args.u.now (c.args.s * 6) (c.args.s * 6 + 6) c.requires.2) in (
+        l,
+        t.2 (pos 0) ∙ get_or-between c.args.u.now (c.args.s * 6) (c.args.s * 6 + 6) j (pos 0) (omega arith),
+        t.3 (pos 0) ∙ get_or-between c.args.v.now (c.args.t * 6) (c.args.t * 6 + 6) j (pos 0) (omega arith),
+      )
 
-y_is : (c : lts.After-y tie.the-claims reads.Pre reads.Post goal.the-invariant-loop-j goal.the-decreases-loop-j) →
-    let l = c in
-    to_z w64 (of_z w64 (u c.before.before.before.before.before l.loop-j.j)) ≡ u c.before.before.before.before.before l.loop-j.j
-y_is c = let l = c in read64 (u c.before.before.before.before.before l.loop-j.j) c.y-1.given
+  x_is : to_z w64 (of_z w64 c.from.result) ≡ p j
+  x_is = got64 (c.from.ensures ∙ to_z-of_z {w = w32} (fits_abs (rw turn.1 (omega (arith, p_small j)))) ∙ turn.1) c.from.type_inv
 
-pub loop-j-init : goal.loop-j-init
-loop-j-init c = (search rules, sym (dot_none (p c) (u c)))
+  y_is : to_z w64 (of_z w64 c.in-Some.y.now) ≡ u j
+  y_is = to_z-of_z {w = w64} (fits_abs (rw turn.2 (omega (arith, u_small j)))) ∙ turn.2
+
+pub loop-x-init : goal.loop-x-init
+loop-x-init c = (search rules, sym (dot_none _ _))
 
 pub multiply_add-sum-requires : goal.multiply_add-sum-requires
 multiply_add-sum-requires c =
-    let l = c in
-    let s = l in
-    sum_fits (p c.before.before.before.before.before) (u c.before.before.before.before.before) 1048576 412451078144 (p_small c.before.before.before.before.before) (u_small c.before.before.before.before.before) tt l.loop-j.j (omega arith) l.loop-j.invariant.1 (x_is c.before)
-    (y_is c)
+    let s = (goal.at.multiply_add-sum-requires c).After-from in
+    sum_fits (p s) (u s) 1048576 412451078144 (p_small s) (u_small s) tt (j s) (turn s).0 c.loop-x.invariant.1 (x_is s) (y_is s)
 
-pub loop-j-preserved : goal.loop-j-preserved
-loop-j-preserved c =
-    let d = c in
-    let l = d in
-    let s = l in (
-      omega arith,
-      sum_goes_on (p c.before.before.before.before.before.before) (u c.before.before.before.before.before.before) 1048576 412451078144 (p_small c.before.before.before.before.before.before) (u_small c.before.before.before.before.before.before) tt l.loop-j.j (omega arith) l.loop-j.invariant.1
-          (x_is c.before.before) (y_is c.before) c.multiply_add-sum.ensures,
+pub loop-x-preserved : goal.loop-x-preserved
+loop-x-preserved c =
+    let s = (goal.at.loop-x-preserved c).After-from in
+    let e : length (c.loop-x.yielded ++ (c.in-Some.x, c.in-Some.y) ∷ []) ≡ j s + 1 = length_push c.loop-x.yielded (c.in-Some.x, c.in-Some.y) in
+    rw e (
+      omega (arith, (turn s).0),
+      sum_goes_on (p s) (u s) 1048576 412451078144 (p_small s) (u_small s) tt (j s) (turn s).0 c.loop-x.invariant.1 (x_is s) (y_is s)
+          c.multiply_add-sum.ensures,
     )
 
 pub returns : goal.returns
 returns c =
-    let l = c in
-    let s = l in
-    let e : l.loop-j.j ≡ 6 = omega arith in
-    l.loop-j.invariant.1
-    ∙ ap (λ (m : ℕ). dot m (p c.before.before) (u c.before.before)) e
+    let t = zip_end (between (c.args.s * 6) (c.args.s * 6 + 6) c.args.u.now) (between (c.args.t * 6) (c.args.t * 6 + 6) c.args.v.now)
+    c.loop-x.yielded c.into_iter-x-iterator.result c.loop-x.x-iterator c.next.new.self c.next.result (cc) (cc) c.loop-x.yielded_by c.in-None.is c.next.ensures.steps in
+    let e : length c.loop-x.yielded ≡ 6 = omega (arith, length-between c.args.u.now (c.args.s * 6) (c.args.s * 6 + 6) c.requires.2, length-between c.args.v.now (c.args.t * 6) (c.args.t * 6 + 6) c.requires.3) in
+    c.loop-x.invariant.1 ∙ ap (λ (m : ℕ). dot m (row_of c.args.u.now c.args.s) (row_of c.args.v.now c.args.t)) e

@@ -4,7 +4,6 @@ use Rattle.model.specs.Limits.{standard_weights}
 use Rattle.model.specs.Hull.{hull}
 use Rattle.zonotope.specs.Record.{view}
 use Rattle.answers.specs.Answer.{of_result}
-use Rattle.answers.proofs.Settled.{settled-result}
 use Rattle.summing.specs.Summand.{for_sum}
 use Rattle.hulling.specs.Hulled.{blended-many, blended_few, blended-factors, blended_common}
 use Rattle.hulling.proofs.hulled.Goals as goal
@@ -17,12 +16,12 @@ returns-then-too_many c =
     let t = c in
     let a = t.args in
     let m = hull standard_weights a.next (view a.first) (view a.second) in
-    blended-many (view a.first) (view a.second) (of_result m) a.first m
+    blended-many (view a.first) (view a.second) (of_result m) m
     (sym (blended-factors (view a.first) (view a.second) t.tied_identifiers-all.ensures) ∙ sym c.too_many.ensures
     ∙ c.if-too_many.true)
 
-pub finished-f-requires : goal.finished-f-requires
-finished-f-requires c =
+pub finished-requires : goal.finished-requires
+finished-requires c =
     let t = c in
     let a = t.args in
     let k = blended_common (view a.first) (view a.second) t.tied_identifiers-all.ensures
@@ -35,7 +34,7 @@ returns c =
     let t = i in
     let a = t.args in
     let m = hull standard_weights a.next (view a.first) (view a.second) in
-    blended_few (view a.first) (view a.second) (of_result m) a.first m
+    blended_few (view a.first) (view a.second) (of_result m) m
     (sym (blended-factors (view a.first) (view a.second) t.tied_identifiers-all.ensures) ∙ sym i.too_many.ensures
     ∙ i.if-too_many.false)
-    (settled-result a.first m c.settle.ensures c.finished-f.ensures)
+    c.finished.ensures

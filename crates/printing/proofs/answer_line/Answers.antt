@@ -1,4 +1,6 @@
 -- `printing::answer_line` meets its contract: the line of each case.
+use mathlib.Core.Logic.{inl, inr}
+use mathlib.Core.Path.{sym}
 use Rattle.printing.specs.Line.{case_line, line_put, nothing_put}
 use Rattle.printing.proofs.answer_line.Goals as goal
 
@@ -16,12 +18,11 @@ returns-in-Unknown c = line_put _ c.args.a c.in-Unknown.is c.verdict_line-in-Unk
 
 pub returns-in-Refused : goal.returns-in-Refused
 unfolding case_line
-returns-in-Refused c = line_put _ c.args.a c.in-Refused.is c.refusal_line.ensures
+returns-in-Refused c = line_put _ c.args.a c.in-Refused.is (rw (sym c.number.ensures) c.refusal_line.ensures)
 
 pub returns-in-Skipped : goal.returns-in-Skipped
 unfolding case_line
-returns-in-Skipped c = line_put _ c.args.a c.in-Skipped.is (nothing_put _ _)
-
-pub returns-in-Unfit : goal.returns-in-Unfit
-unfolding case_line
-returns-in-Unfit c = line_put _ c.args.a c.in-Unfit.is (nothing_put _ _)
+returns-in-Skipped c = elim c.in-Skipped.is [
+  | inl e ↦ line_put _ c.args.a e (nothing_put _ _)
+  | inr e ↦ line_put _ c.args.a e.1 (nothing_put _ _)
+]

@@ -1,19 +1,16 @@
 -- `rewriting::close` meets its contract.
-use mathlib.Core.Path.{refl, sym}
+use Rattle.std.proofs.Common.{◌≤◌, length, ap, ◌∙◌, arith}
 use Rattle.text.specs.Appended.{named}
 use Rattle.rewriting.proofs.OneByte.{held_count}
-use native.Mathlib.Omega.{arith}
 use Rattle.rewriting.proofs.close.Goals as goal
+use Rattle.rewriting.proofs.close.Goals.{After-bytes}
 
-pub slice_bounds-append-end : goal.slice_bounds-append-end
-slice_bounds-append-end c = let s = c in sym (held_count s.args.h s.requires.0)
+-- no more are held than an empty disturbance has
+few : (c : After-bytes) → length c.bytes.result.now ≤ 28
+few c = omega (arith, ap length c.bytes.ensures ∙ held_count c.args.h c.requires.0, c.requires.0.within)
 
 pub append-requires : goal.append-requires
-append-requires c =
-    let s = c in omega (arith, held_count s.args.h s.requires.0, s.requires.0.within, s.requires.1)
+append-requires c = omega (arith, few (goal.at.append-requires c).After-bytes, c.requires.1)
 
 pub returns : goal.returns
-returns c =
-    let a = c in
-    let s = a in
-    named (omega (arith, held_count s.args.h s.requires.0, s.requires.0.within)) refl a.append.ensures
+returns c = named (few (goal.at.returns c).After-bytes) c.bytes.ensures c.append.ensures

@@ -1,21 +1,13 @@
--- `rewriting::gather` meets its contract: after i turns the first i bytes are held.
-use native.Mathlib.Omega.{arith}
-use Rattle.rewriting.proofs.Gathered.{gathering_begins, gathering_goes_on, gathering_ends}
+-- `rewriting::gather` meets its contract.
+use Rattle.std.proofs.Common.{◌≡◌, ◌+◌, ◌-◌, length, arith}
+use lib.Seq.{drop-drop}
+use Rattle.rewriting.proofs.Gathered.{gathered_bytes}
 use Rattle.rewriting.proofs.gather.Goals as goal
-
-pub loop-i-init : goal.loop-i-init
-loop-i-init c = let s = c in (omega arith, gathering_begins s.args.h s.args.more.now)
-
-pub loop-i-preserved : goal.loop-i-preserved
-loop-i-preserved c =
-    let l = c in
-    let s = l in (
-      omega arith,
-      gathering_goes_on s.args.h s.args.more.now c.loop-i-test.true l.loop-i.invariant.1,
-    )
 
 pub returns : goal.returns
 returns c =
-    let l = c in
-    let s = l in
-    gathering_ends s.args.h s.args.more.now l.loop-i.invariant.0 c.loop-i-test.false l.loop-i.invariant.1
+    let h = c.args.h in
+    let more = c.args.more.now in
+    let size : length h.bytes ≡ 28 = omega (arith, c.well_formed) in
+    let n : h.count + length more - h.count ≡ length more = omega arith in
+    rw (c.copy_from_slice.ensures.after, n, drop-drop (length more) h.count h.bytes) (gathered_bytes h more (omega (arith, size)))

@@ -9,4 +9,4 @@ use Rattle.run.proofs.begin.Goals as goal
 
 pub returns : goal.returns
 unfolding tab
-returns c = ap (λ (s : PolyZonotope). record { set = s; next = first_fresh; count = 0; over = false; folded = blank 6 }) c.empty-set.ensures
+returns c = ap (λ (s : PolyZonotope). record { set = s; next = first_fresh; count = 0; over = false; folded = blank 6 }) c.empty.ensures

@@ -1,12 +1,9 @@
 -- `select::fold_generators` meets its contract: where the generators are few nothing is folded, and else the arrays have room for them.
-use mathlib.Core.Bool.{false}
 use mathlib.Core.Path.{refl}
 use Rattle.model.specs.Finish.{size, fold_generator}
 use Rattle.rows.specs.Rows.{number_row}
-use Rattle.fold.specs.Marks.{same_at}
 use Rattle.select.specs.Selected.{few_left}
 use Rattle.select.specs.Stage.{bounded_none}
-use native.Mathlib.Omega.{arith}
 use borrow.Author.Rules.{rules}
 use Rattle.select.proofs.fold_generators.Goals as goal
 
@@ -25,35 +22,3 @@ returns-then-n-limit c =
       );
       later_rows = refl;
     }
-
-pub fold_generators_in-requires : goal.fold_generators_in-requires
-fold_generators_in-requires c =
-    let s = c in (
-      s.requires.0,
-      s.requires.1,
-      s.requires.2,
-      s.requires.3,
-      s.requires.4,
-      s.requires.5,
-      omega arith,
-      search rules,
-      search rules,
-      search rules,
-      same_at false 161,
-    )
-
-pub fold_generators_in-requires-2 : goal.fold_generators_in-requires-2
-fold_generators_in-requires-2 c =
-    let s = c in (
-      s.requires.0,
-      s.requires.1,
-      s.requires.2,
-      s.requires.3,
-      s.requires.4,
-      s.requires.5,
-      omega arith,
-      search rules,
-      search rules,
-      search rules,
-      same_at false 860,
-    )

@@ -1,7 +1,6 @@
 -- `select::fold_terms` meets its contract: where the terms are few nothing is folded, and else the arrays have room for them.
 use mathlib.Core.Path.{refl}
 use Rattle.select.specs.Stage.{bounded_none, terms_few}
-use native.Mathlib.Omega.{arith}
 use borrow.Author.Rules.{rules}
 use Rattle.select.proofs.fold_terms.Goals as goal
 
@@ -22,27 +21,17 @@ returns-then-n-limit c =
       later_rows = refl;
     }
 
-pub fold_terms_in-requires : goal.fold_terms_in-requires
-fold_terms_in-requires c =
-    let s = c in
-    (s.requires.0, s.requires.1, s.requires.2, s.requires.3, omega arith, search rules, search rules, search rules)
-
 pub returns-then-n-le161 : goal.returns-then-n-le161
 returns-then-n-le161 c =
-    let f = c.fold_terms_in in record {
+    let f = c.fold_terms_within in record {
       passed = f.ensures.passed;
       later_places = f.ensures.later_places;
       later_rows = f.ensures.later_rows;
     }
 
-pub fold_terms_in-requires-2 : goal.fold_terms_in-requires-2
-fold_terms_in-requires-2 c =
-    let s = c in
-    (s.requires.0, s.requires.1, s.requires.2, s.requires.3, omega arith, search rules, search rules, search rules)
-
 pub returns : goal.returns
 returns c =
-    let f = c.fold_terms_in-2 in record {
+    let f = c.fold_terms_within-2 in record {
       passed = f.ensures.passed;
       later_places = f.ensures.later_places;
       later_rows = f.ensures.later_rows;

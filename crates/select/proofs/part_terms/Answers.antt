@@ -1,24 +1,22 @@
 -- `select::part_terms` meets its contract, by what its passes leave.
+use Rattle.std.proofs.Common.{ℕ, get_or, rules}
+use Rattle.model.specs.Finish.{all_even}
+use Rattle.rows.specs.Rows.{exponent_row}
 use Rattle.select.specs.Stage.{terms-passed, ready-after}
 use Rattle.select.proofs.part_terms.Goals as goal
 
 pub returns : goal.returns
 returns c =
-    let places = c in
-    let rows = places in
-    let folds = rows in
-    let marks = folds in
-    let s = marks in
-    let v = folds.fold_rows-core.ensures in record {
-      passed = record {
-        is = terms-passed s.args.e.now s.args.heads.now _ s.args.s.now _ s.args.n rows.keep_rows-count.result
-            places.keep_places.result
-            s.args.gone.now marks.mark.new.out marks.mark.ensures.by_index v places.keep_places.ensures.upper_bound.1
-            rows.keep_rows-count.ensures.upper_bound.1;
-        fewer = rows.keep_rows-count.ensures.upper_bound.0;
-        ready = ready-after s.requires.0 rows.keep_rows-count.ensures.upper_bound.0 places.keep_places.auto.heads rows.keep_rows-count.auto.s
-            (places.keep_places.ensures.upper_bound.2 s.args.e.now s.requires.0.rows) (rows.keep_rows-count.ensures.upper_bound.2 _ s.requires.0.small);
-        bounded = record { centre = v.centre_small; radii = v.radii_small };
-      };
-      work_space = marks.mark.auto.out;
+    let g = c.args in
+    let e = g.e.now in
+    let heads = g.heads.now in
+    let kept = c.keep_rows-count.ensures.upper_bound in
+    let moved = c.keep_places.ensures.upper_bound in
+    let ready = c.requires.0 in
+    let core = c.fold_rows.ensures.folds (λ (k : ℕ). all_even (exponent_row e (get_or heads k 0))) (λ k r l post. search rules) in
+    record {
+      is = terms-passed e heads _ g.s.now _ _ c.keep_rows-count.result c.keep_places.result g.gone.now _ core moved.1 kept.1;
+      fewer = kept.0;
+      ready = ready-after ready kept.0 c.keep_places.auto.heads c.keep_rows-count.auto.s (moved.2 e ready.rows) (kept.2 _ ready.small);
+      bounded = c.fold_rows.ensures.bounds;
     }

@@ -17,7 +17,7 @@ finish_rows-requires c =
     let s = o in
     let rows =
     image_finishable (step_of c.args.m c.args.n c.args.c.now c.args.a.now c.args.q.now) s.args.gains.now s.args.s s.requires.0 s.requires.1 o.of_step-image.ensures
-    (omega (arith, o.of_step-image.auto, s.requires.4)) (omega (arith, o.of_step-image.auto, s.requires.3)) c.radii_of-radii.ensures in
+    (omega (arith, o.of_step-image.auto, s.requires.4)) (omega (arith, o.of_step-image.auto, s.requires.3)) c.anew.ensures in
     (rows, omega arith, omega arith)
 
 pub returns : goal.returns
@@ -26,7 +26,7 @@ returns c =
     let s = o in record {
       value = image-step (step_of c.args.m c.args.n c.args.c.now c.args.a.now c.args.q.now) s.args.gains.now s.args.s s.requires.0 s.requires.1 o.of_step-image.ensures
           (omega (arith, o.of_step-image.auto, s.requires.4)) (omega (arith, o.of_step-image.auto, s.requires.3))
-          c.radii_of-radii.ensures c.finish_rows.ensures;
+          c.anew.ensures c.finish_rows.ensures;
       numbers = numbers-kept o.of_step-image.ensures;
       exponents = exponents-kept o.of_step-image.ensures;
     }

@@ -4,5 +4,4 @@ use Rattle.text.proofs.closing_lines.Goals as goal
 
 pub returns : goal.returns
 returns c =
-    let last = c in
-    closing_put last.folded_line-a.ensures last.end_line.ensures
+    closing_put c.folded_line-at.ensures c.end_line.ensures

@@ -6,6 +6,4 @@ use Rattle.text.proofs.end_line.Goals as goal
 pub returns : goal.returns
 unfolding ascii
 returns c =
-    let last = c in
-    let number = last in
-    end_put _ number.append-a.ensures number.append_item-b.ensures last.append.ensures
+    end_put _ c.append-at.ensures c.append_item-at.ensures c.append.ensures

@@ -6,10 +6,5 @@ use Rattle.text.proofs.refusal_line.Goals as goal
 pub returns : goal.returns
 unfolding ascii
 returns c =
-    let last = c in
-    let place = last in
-    let number = place in
-    let word = number in
-    let field = word in
-    refusal_put _ _ number.widen_u8.ensures.0 field.append_number-a.ensures word.append-b.ensures
-    number.append_item-c.ensures place.append_item-d.ensures last.append.ensures
+    refusal_put _ _ c.from.ensures c.append_number-at.ensures c.append-at.ensures
+    c.append_item-at.ensures c.append_item-at-2.ensures c.append.ensures

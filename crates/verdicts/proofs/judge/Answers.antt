@@ -41,7 +41,7 @@ verdict s t =
     rw (
       s.if-n-count.false,
       s.if-normals-count.false,
-      ap not (eq-eqb _ _ s.if-n-dimension.false),
+      ap not (eq-eqb _ _ s.if-n-s.false),
       out_of_range (goal.at.After-any_apart s).After-bounds_beyond s.if-entries_beyond-bounds_beyond.false,
       ap (λ m. safe (halfspaces a.n m a.normals.now a.bounds.now) (view a.s)) (sym (lengths (goal.at.After-any_apart s).Else-normals-count).1)
           ∙ sym s.any_apart.ensures ∙ t,
@@ -58,20 +58,20 @@ pub returns-then-normals-count : goal.returns-then-normals-count
 unfolding first_of
 returns-then-normals-count c = rw (c.if-n-count.false, c.if-normals-count.true)
 
-pub returns-then-n-dimension : goal.returns-then-n-dimension
+pub returns-then-n-s : goal.returns-then-n-s
 unfolding first_of view
-returns-then-n-dimension c = rw (c.if-n-count.false, c.if-normals-count.false, ap not (ne_eqb _ _ c.if-n-dimension.true))
+returns-then-n-s c = rw (c.if-n-count.false, c.if-normals-count.false, ap not (ne_eqb _ _ c.if-n-s.true))
 
 pub returns-then-entries_beyond-bounds_beyond : goal.returns-then-entries_beyond-bounds_beyond
 unfolding first_of view
 returns-then-entries_beyond-bounds_beyond c =
-    rw (c.if-n-count.false, c.if-normals-count.false, ap not (eq-eqb _ _ c.if-n-dimension.false), out_of_range (goal.at.returns-then-entries_beyond-bounds_beyond c).After-bounds_beyond c.if-entries_beyond-bounds_beyond.true)
+    rw (c.if-n-count.false, c.if-normals-count.false, ap not (eq-eqb _ _ c.if-n-s.false), out_of_range (goal.at.returns-then-entries_beyond-bounds_beyond c).After-bounds_beyond c.if-entries_beyond-bounds_beyond.true)
 
 pub any_apart-requires : goal.any_apart-requires
 any_apart-requires c =
     let l = lengths (goal.at.any_apart-requires c).Else-normals-count in (
       c.requires,
-      sym c.if-n-dimension.false,
+      sym c.if-n-s.false,
       entries-within _ (or_left _ _ (out_of_range (goal.at.any_apart-requires c).After-bounds_beyond c.if-entries_beyond-bounds_beyond.false)),
       l.0 ∙ ap (◌* c.args.n) (sym l.1),
     )

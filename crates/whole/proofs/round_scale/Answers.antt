@@ -1,7 +1,6 @@
 -- `whole::round_scale` meets its contract, by `Nearest.antt`.
 use mathlib.Core.Path.{◌≡◌, ap, ◌∙◌}
 use Prim.Native.Nat.{◌%◌}
-use lib.Dec.{lit<}
 use lib.IntN.{ℤ, pos, nat_abs}
 use mir.Facts.{to_z-of_z}
 use Rattle.whole.specs.Fits.{got64}
@@ -15,29 +14,8 @@ use Rattle.whole.proofs.round_scale.Goals.{After-floor_scale-below, After-odd}
 below : (c : After-floor_scale-below) → stored c.floor_scale-below.result ≡ floor c.args.v scale
 below c = got64 (c.floor_scale-below.ensures ∙ ap (λ (z : ℤ). floor z scale) (to_z-of_z c.ranges.v)) c.floor_scale-below.type_inv
 
-pub overflow_mul-rest : goal.overflow_mul-rest
-overflow_mul-rest c = nearest.times_fits c.args.v c.floor_scale-below.result c.ranges.v (below c)
-
-pub overflow_sub-rest : goal.overflow_sub-rest
-overflow_sub-rest c = nearest.left_fits c.args.v c.floor_scale-below.result c.ranges.v (below c)
-
-pub overflow_add-result : goal.overflow_add-result
-overflow_add-result c = nearest.most_fits c.args.v c.floor_scale-below.result c.ranges.v (below c)
-
 parity : (c : After-odd) → stored c.odd.result ≡ pos (nat_abs (floor c.args.v scale) % 2)
 parity c = got64 (c.odd.ensures ∙ ap (λ (z : ℤ). pos (nat_abs z % 2)) (below c.before)) c.odd.type_inv
-
-pub overflow_add-result-2 : goal.overflow_add-result-2
-overflow_add-result-2 c =
-    let v = c in
-    nearest.all_fits v.args.v c.floor_scale-below.result v.ranges.v (below c.before) c.odd.result (parity c)
-
-pub nonzero_div-result : goal.nonzero_div-result
-nonzero_div-result c =
-    let v = c in (
-      lit< tt,
-      nearest.more_fits v.args.v c.floor_scale-below.result v.ranges.v (below c.before) c.odd.result (parity c),
-    )
 
 pub overflow_add-result-3 : goal.overflow_add-result-3
 overflow_add-result-3 c =

@@ -17,22 +17,22 @@ overflow_mul-i c =
     let b : c.args.i * c.args.n ≤ 36 = mul-le-mul {n₂ = 6} (omega (arith, ok.rows, c.if-m-i.false)) ok.columns in
     omega arith
 
-pub row_gain-x-requires : goal.row_gain-x-requires
-row_gain-x-requires c =
+pub row_gain-requires : goal.row_gain-requires
+row_gain-requires c =
     let g = c.args in
     let ok = c.requires.0 in
     let ends = form-ends g.m g.n g.spans.now g.da.now g.dq.now ok g.i c.if-m-i.false in
     (ok.columns, ends.0, omega arith, ok.linear_small, c.requires.1)
 
-pub form_gain-y-requires : goal.form_gain-y-requires
-form_gain-y-requires c =
+pub form_gain-requires : goal.form_gain-requires
+form_gain-requires c =
     let g = c.args in
     let ok = c.requires.0 in
     let ends = form-ends g.m g.n g.spans.now g.da.now g.dq.now ok g.i c.if-m-i.false in
     (omega (arith, ok.rows, c.if-m-i.false), ok.columns, ends.1, ok.quadratic_small, c.requires.1)
 
 pub overflow_add-result : goal.overflow_add-result
-overflow_add-result c = omega (arith, c.row_gain-x.ensures.1, c.form_gain-y.ensures.1)
+overflow_add-result c = omega (arith, c.row_gain.ensures.1, c.form_gain.ensures.1)
 
 pub returns : goal.returns
-returns c = ap₂ ◌+◌ c.row_gain-x.ensures.0 c.form_gain-y.ensures.0
+returns c = ap₂ ◌+◌ c.row_gain.ensures.0 c.form_gain.ensures.0

@@ -1,10 +1,10 @@
--- `words::any_negative` meets its contract: no word is beyond the limit.
-use mathlib.Core.Path.{◌∙◌}
-use Rattle.words.specs.Number.{only-negative}
-use native.Mathlib.Omega.{arith}
+-- `words::any_negative` meets its contract.
+use Rattle.std.proofs.Common.{rules, ◌+◌, ◌*◌}
+use Rattle.whole.specs.Chains.{any_of_range}
+use Rattle.model.specs.Bytes.{word}
+use Rattle.model.specs.Field.{negative}
 use Rattle.words.proofs.any_negative.Goals as goal
 
 pub returns : goal.returns
 returns c =
-    let known = c.shared_slice_known-1.given in
-    c.any_outside.ensures ∙ only-negative c.args.b.now (λ j. omega (arith, known j)) _ _
+    any_of_range negative (λ k. word c.args.b.now (c.args.i + 4 * k)) c.args.n c.any.ensures.ran (λ x b q k. search rules)

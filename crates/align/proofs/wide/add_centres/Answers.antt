@@ -28,7 +28,7 @@ loop-i-preserved c =
       omega arith,
       write-next _ _ at.loop-i.out i _ at.loop-i.invariant.1
           (got64 c.add_wide.ensures c.add_wide.type_inv ∙ ap₂ (λ (x y : ℤ). x +ℤ to_z w64 (of_z w64 at.args.sign) *ℤ y)
-          (read32 x c.x-1.given) (read32 y c.y-1.given)),
+          (read32 x (search rules)) (read32 y (search rules))),
     )
 
 pub returns : goal.returns

@@ -14,7 +14,7 @@ loop-i-preserved c =
     let at = c in (
       omega arith,
       write-next _ _ at.loop-i.out at.loop-i.i _ at.loop-i.invariant.1
-          (ap₂ ◌+◌ c.widen_u32-x.ensures.0 c.widen_u32-y.ensures.0),
+          (ap₂ ◌+◌ c.from.ensures c.from-in-loop-i.ensures),
     )
 
 pub returns : goal.returns

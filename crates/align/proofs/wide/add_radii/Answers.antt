@@ -3,8 +3,8 @@ use Rattle.align.proofs.wide.add_radii.Goals as goal
 
 pub returns : goal.returns
 returns c = λ i. record {
-  carried = c.add_parts-carried.ensures i;
-  rounded = c.add_parts-rounded.ensures i;
-  folded = c.add_parts-folded.ensures i;
-  given = c.add_parts-given.ensures i;
+  carried = c.add_parts.ensures i;
+  rounded = c.add_parts-2.ensures i;
+  folded = c.add_parts-3.ensures i;
+  given = c.add_parts-4.ensures i;
 }

@@ -17,8 +17,8 @@ pub multiply_add-requires : goal.multiply_add-requires
 multiply_add-requires c =
     let s = c in
     rw (
-      got64 c.widen-a.ensures c.widen-a.type_inv,
-      got64 c.widen-b.ensures c.widen-b.type_inv,
+      got64 c.from.ensures c.from.type_inv,
+      got64 c.from-2.ensures c.from-2.type_inv,
       to_z-of_z s.ranges.x,
       to_z-of_z s.ranges.sign,
       to_z-of_z s.ranges.y,
@@ -29,5 +29,5 @@ pub returns : goal.returns
 returns c =
     let s = c in
     got64 c.multiply_add.ensures c.multiply_add.type_inv
-    ∙ ap₂ ◌+ℤ◌ (got64 c.widen-a.ensures c.widen-a.type_inv ∙ to_z-of_z s.ranges.x)
-    (ap₂ ◌*ℤ◌ (to_z-of_z s.ranges.sign) (got64 c.widen-b.ensures c.widen-b.type_inv ∙ to_z-of_z s.ranges.y))
+    ∙ ap₂ ◌+ℤ◌ (got64 c.from.ensures c.from.type_inv ∙ to_z-of_z s.ranges.x)
+    (ap₂ ◌*ℤ◌ (to_z-of_z s.ranges.sign) (got64 c.from-2.ensures c.from-2.type_inv ∙ to_z-of_z s.ranges.y))

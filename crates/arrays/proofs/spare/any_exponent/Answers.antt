@@ -1,27 +1,18 @@
--- `spare::any_exponent` meets its contract: the answer so far is that for the places passed.
-use native.Mathlib.Omega.{arith}
-use mathlib.Core.Path.{◌≡◌, refl, sym, ap, ◌∙◌}
-use mathlib.Core.Bool.{not, ◌||◌}
-use Prim.Native.Nat.{◌+◌}
-use lib.Dec.{eqb}
-use lib.ListN.{get_or}
-use Rattle.whole.specs.Tab.{tab, any}
-use Rattle.whole.specs.Tests.{some_below}
-use Rattle.arrays.specs.Spare.{some_more}
+-- `spare::any_exponent` meets its contract: what is found so far is what the places passed give.
+use Rattle.std.specs.Prelude.{◌≡◌, refl, not, ◌||◌, Bool, ℕ, eqb}
+use Rattle.std.proofs.Common.{◌∙◌, sym, ap, rules, tests}
+use Rattle.std.proofs.lemmas.Iterator.{YieldsList-from_slice}
+use Rattle.std.proofs.lemmas.Fn.{fold_over, fronts}
+use Rattle.whole.specs.Tab.{any}
+use Rattle.arrays.specs.Chains.{any-end}
 use Rattle.arrays.proofs.spare.any_exponent.Goals as goal
 
-pub loop-i-init : goal.loop-i-init
-unfolding tab any
-loop-i-init c = (omega arith, refl)
-
-pub loop-i-preserved : goal.loop-i-preserved
-loop-i-preserved c =
-    let l = c in
-    let a = l.args in
-    (omega arith, ap (◌|| not (eqb (get_or a.e.now (a.from + l.loop-i.i) 0) 0)) l.loop-i.invariant.1 ∙ sym (some_more _ _))
-
 pub returns : goal.returns
+unfolding any
 returns c =
-    let a = c.args in
-    let e : c.loop-i.i ≡ a.n = omega arith in
-    c.loop-i.invariant.1 ∙ ap (λ n. some_below n (λ j. not (eqb (get_or a.e.now (a.from + j) 0) 0))) e
+    let nonzero : ℕ → Bool = λ x. not (eqb x 0) in
+    fold_over fronts (λ y. y.now) _ (λ ys found. found ≡ any nonzero ys) _
+    (λ ys a x b f' e k.
+    let now : b ≡ a || nonzero x.now = search (rules, tests) in
+    (now ∙ ap (◌|| nonzero x.now) e ∙ sym (any-end nonzero ys x.now), search rules))
+    c.iter.result c.args.run.now _ _ (YieldsList-from_slice _ c.iter.ensures.rest).runs refl c.fold.ensures.ran

@@ -1,30 +1,19 @@
--- `spare::any_number` meets its contract: the answer so far is that for the places passed.
-use native.Mathlib.Omega.{arith}
-use mathlib.Core.Path.{◌≡◌, refl, sym, ap, ap₂, ◌∙◌}
-use mathlib.Core.Bool.{not, ◌||◌}
-use Prim.Native.Nat.{◌+◌}
-use lib.ListN.{get_or}
-use lib.IntN.{pos}
-use Rattle.whole.specs.Fits.{read32}
-use Rattle.whole.specs.Tab.{tab, any}
-use Rattle.whole.specs.Tests.{some_below}
+-- `spare::any_number` meets its contract: what is found so far is what the places passed give.
+use Rattle.std.specs.Prelude.{◌≡◌, refl, not, ◌||◌, Bool, ℤ}
 use Rattle.model.specs.Valid.{is_zero}
-use Rattle.arrays.specs.Spare.{some_more}
+use Rattle.std.proofs.Common.{◌∙◌, sym, ap, rules, tests}
+use Rattle.std.proofs.lemmas.Iterator.{YieldsList-from_slice}
+use Rattle.std.proofs.lemmas.Fn.{fold_over, fronts}
+use Rattle.whole.specs.Tab.{any}
+use Rattle.arrays.specs.Chains.{any-end}
 use Rattle.arrays.proofs.spare.any_number.Goals as goal
 
-pub loop-i-init : goal.loop-i-init
-unfolding tab any
-loop-i-init c = (omega arith, refl)
-
-pub loop-i-preserved : goal.loop-i-preserved
-loop-i-preserved c =
-    let l = c in
-    let z = get_or l.args.xs.now (l.args.from + l.loop-i.i) (pos 0) in
-    let e = c.is_zero.ensures ∙ ap is_zero (read32 z c.is_zero-arg-1.given) in
-    (omega arith, ap₂ ◌||◌ l.loop-i.invariant.1 (ap not e) ∙ sym (some_more _ _))
-
 pub returns : goal.returns
+unfolding any
 returns c =
-    let a = c.args in
-    let e : c.loop-i.i ≡ a.n = omega arith in
-    c.loop-i.invariant.1 ∙ ap (λ n. some_below n (λ j. not (is_zero (get_or a.xs.now (a.from + j) (pos 0))))) e
+    let nonzero : ℤ → Bool = λ x. not (is_zero x) in
+    fold_over fronts (λ y. y.now) _ (λ ys found. found ≡ any nonzero ys) _
+    (λ ys a x b f' e k.
+    let now : b ≡ a || nonzero x.now = search (rules, tests) in
+    (now ∙ ap (◌|| nonzero x.now) e ∙ sym (any-end nonzero ys x.now), search rules))
+    c.iter.result c.args.run.now _ _ (YieldsList-from_slice _ c.iter.ensures.rest).runs refl c.fold.ensures.ran

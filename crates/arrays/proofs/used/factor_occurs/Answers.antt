@@ -1,19 +1,13 @@
--- `used::factor_occurs` meets its contract: the factor occurs in no row passed.
-use native.Mathlib.Omega.{arith}
-use mathlib.Core.Path.{sym}
-use borrow.Author.Count.{below_more}
-use borrow.Author.Tests.{lt-ltb, le-ltb}
-use Rattle.whole.specs.Tests.{any_found, any_none}
+-- `used::factor_occurs` meets its contract: a row has the factor where the library finds one.
+use Rattle.std.specs.Prelude.{◌+◌, ◌*◌, ltb, get_or}
+use Rattle.std.proofs.Common.{◌∙◌, arith, rules, tests}
+use Rattle.std.proofs.lemmas.Iterator.{YieldsList-from_range}
+use Rattle.std.proofs.lemmas.Iterator.Search.{any_from_yields_List}
+use Rattle.arrays.specs.Chains.{some_listed}
 use Rattle.arrays.proofs.used.factor_occurs.Goals as goal
 
-pub loop-t-init : goal.loop-t-init
-loop-t-init c = (omega arith, λ k l. absurd (omega arith))
-
-pub returns-then-e-t-gt0 : goal.returns-then-e-t-gt0
-returns-then-e-t-gt0 c = sym (any_found _ _ _ _ (omega arith) (lt-ltb _ _ c.if-e-t-gt0.true))
-
-pub loop-t-preserved : goal.loop-t-preserved
-loop-t-preserved c = (omega arith, below_more _ _ c.loop-t.invariant.1 (le-ltb _ _ c.if-e-t-gt0.false))
-
 pub returns : goal.returns
-returns c = sym (any_none _ _ _ (λ k l. c.loop-t.invariant.1 k (omega arith)))
+returns c =
+    any_from_yields_List (λ t. ltb 0 (get_or c.args.e.now (t * 12 + c.args.j) 0)) _ _ _ c.any.ensures.ran (YieldsList-from_range 0 c.args.h c.args.h (cc) (omega arith))
+    (λ x b q k. search (rules, tests))
+    ∙ some_listed _ c.args.h

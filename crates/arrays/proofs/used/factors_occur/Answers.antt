@@ -1,22 +1,14 @@
--- `used::factors_occur` meets its contract: every factor passed occurs.
-use native.Mathlib.Omega.{arith}
-use mathlib.Core.Path.{sym, ◌∙◌}
-use borrow.Author.Count.{below_more}
-use Rattle.whole.specs.Tests.{all_failed, all-passed}
+-- `used::factors_occur` meets its contract, by the test of one factor.
+use Rattle.std.specs.Prelude.{◌+◌, ◌*◌, ltb, get_or}
+use Rattle.std.proofs.Common.{◌∙◌, arith, rules, tests}
+use Rattle.std.proofs.lemmas.Iterator.{YieldsList-from_range}
+use Rattle.std.proofs.lemmas.Iterator.Search.{all_from_yields_List}
+use Rattle.whole.specs.Tests.{some_below}
+use Rattle.arrays.specs.Chains.{each_listed}
 use Rattle.arrays.proofs.used.factors_occur.Goals as goal
 
-pub loop-j-init : goal.loop-j-init
-loop-j-init c = (omega arith, λ k l. absurd (omega arith))
-
-pub returns-then-not-factor_occurs : goal.returns-then-not-factor_occurs
-returns-then-not-factor_occurs c = sym (all_failed _ _ _ _ (omega arith) (sym c.factor_occurs.ensures ∙ c.if-not-factor_occurs.true))
-
-pub loop-j-preserved : goal.loop-j-preserved
-loop-j-preserved c = (
-  omega arith,
-  below_more _ _ c.loop-j.invariant.1
-      (sym c.factor_occurs.ensures ∙ c.if-not-factor_occurs.false),
-)
-
 pub returns : goal.returns
-returns c = sym (all-passed _ _ _ (λ k l. c.loop-j.invariant.1 k (omega arith)))
+returns c =
+    all_from_yields_List (λ j. some_below c.args.h (λ t. ltb 0 (get_or c.args.e.now (t * 12 + j) 0))) _ _ _ c.all.ensures.ran (YieldsList-from_range 0 c.args.p c.args.p (cc) (omega arith))
+    (λ x b q k. search (rules, tests))
+    ∙ each_listed _ c.args.p

@@ -1,20 +1,12 @@
--- `used::identifiers_rise` meets its contract: every identifier passed is below the next.
-use native.Mathlib.Omega.{arith}
-use mathlib.Core.Path.{sym}
-use borrow.Author.Count.{below_more}
-use borrow.Author.Tests.{lt-ltb, le-ltb}
-use lib.Dec.{ltb}
-use Rattle.arrays.specs.Ascent.{rises_failed, rises-passed}
+-- `used::identifiers_rise` meets its contract: the library's test of neighbours.
+use Rattle.std.specs.Prelude.{ltb}
+use Rattle.std.proofs.Common.{◌∙◌, ap, arith, rules, tests}
+use Rattle.std.proofs.lemmas.List.Sorted.{answers_always}
+use Rattle.model.specs.Valid.{rises}
+use Rattle.arrays.specs.Chains.{rises_sorted, first-tab}
 use Rattle.arrays.proofs.used.identifiers_rise.Goals as goal
 
-pub loop-i-init : goal.loop-i-init
-loop-i-init c = (omega arith, λ k l. absurd (omega arith))
-
-pub returns-then-ids-i : goal.returns-then-ids-i
-returns-then-ids-i c = sym (rises_failed ltb _ _ _ (omega arith) (le-ltb _ _ c.if-ids-i.true))
-
-pub loop-i-preserved : goal.loop-i-preserved
-loop-i-preserved c = (omega arith, below_more _ _ c.loop-i.invariant.1 (lt-ltb _ _ c.if-ids-i.false))
-
 pub returns : goal.returns
-returns c = sym (rises-passed ltb _ _ (λ k l. c.loop-i.invariant.1 k (omega arith)))
+returns c =
+    rises_sorted ltb 0 _ _ (c.is_sorted_by.ensures.cases ltb (answers_always _ _ _ (λ f a r f' k. search (rules, tests))))
+    ∙ ap (rises ltb) (first-tab 0 c.args.ids.now c.args.p (omega arith))

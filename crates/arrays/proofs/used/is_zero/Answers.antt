@@ -1,9 +1,12 @@
--- `used::is_zero` meets its contract, by the size.
-use mathlib.Core.Path.{ap, ◌∙◌}
-use lib.Dec.{eqb}
-use lib.IntN.{nat_abs}
-use mir.Facts.{to_z-of_z}
+-- `used::is_zero` meets its contract: all numbers are 0 where the library finds none else.
+use Rattle.std.proofs.Common.{◌∙◌, rules, tests}
+use Rattle.std.proofs.lemmas.Iterator.{YieldsList-from_slice}
+use Rattle.std.proofs.lemmas.Iterator.Search.{all_from_yields_List}
+use Rattle.model.specs.Valid.{is_zero}
+use Rattle.whole.specs.Chains.{all_listed}
 use Rattle.arrays.proofs.used.is_zero.Goals as goal
 
 pub returns : goal.returns
-returns c = ap (λ n. eqb n 0) (c.size_i32.ensures.0 ∙ ap nat_abs (to_z-of_z c.ranges.v))
+returns c =
+    all_from_yields_List is_zero _ _ _ c.all.ensures.ran (YieldsList-from_slice _ c.iter.ensures.rest) (λ x b q k. search (rules, tests))
+    ∙ all_listed is_zero _

@@ -1,26 +1,18 @@
--- `used::row_rises` meets its contract: the two rows agree in every exponent passed.
-use native.Mathlib.Omega.{arith}
-use mathlib.Core.Path.{sym, ap}
-use borrow.Author.Count.{below_more}
-use Rattle.model.specs.Valid.{is_less}
-use Rattle.arrays.specs.Ascent.{order_less, order_greater, order-equal}
+-- `used::row_rises` meets its contract: the order of rows is the library's.
+use Rattle.std.specs.Prelude.{◌≡◌, take, drop, ◌*◌, ◌+◌, ◌-◌}
+use Rattle.std.proofs.Common.{◌∙◌, ap, ap₂, arith}
+use Rattle.model.specs.Valid.{order, is_less}
+use Rattle.arrays.specs.Chains.{row_less, part-tab}
 use Rattle.arrays.proofs.used.row_rises.Goals as goal
 
-pub loop-i-init : goal.loop-i-init
-loop-i-init c = (omega arith, λ k l. absurd (omega arith))
-
-pub returns-then-x-y : goal.returns-then-x-y
-returns-then-x-y c =
-    let at = c in
-    sym (ap is_less (order_less _ _ _ at.loop-i.i (omega arith) at.loop-i.invariant.1 c.if-x-y.true))
-
-pub returns-then-y-x : goal.returns-then-y-x
-returns-then-y-x c =
-    let at = c in
-    sym (ap is_less (order_greater _ _ _ at.loop-i.i (omega arith) at.loop-i.invariant.1 c.if-y-x.true))
-
-pub loop-i-preserved : goal.loop-i-preserved
-loop-i-preserved c = (omega arith, below_more _ _ c.loop-i.invariant.1 (omega arith))
-
 pub returns : goal.returns
-returns c = sym (ap is_less (order-equal _ _ _ (λ k l. c.loop-i.invariant.1 k (omega arith))))
+returns c =
+    let e = c.args.e.now in
+    let p = c.args.p in
+    let before = (c.args.t - 1) * 12 in
+    let at = c.args.t * 12 in
+    let m : before + p - before ≡ p = omega arith in
+    let n : at + p - at ≡ p = omega arith in
+    row_less _ _ _ c.lt.ensures
+    ∙ ap₂ (λ u v. is_less (order u v)) (ap (λ n. take n (drop before e)) m ∙ part-tab 0 e before p (omega arith))
+    (ap (λ n. take n (drop at e)) n ∙ part-tab 0 e at p (omega arith))

@@ -1,22 +1,17 @@
--- `used::rows_rise` meets its contract: every row passed comes before the next.
-use native.Mathlib.Omega.{arith}
-use mathlib.Core.Path.{sym, ◌∙◌}
-use borrow.Author.Count.{below_more}
+-- `used::rows_rise` meets its contract, by the test of one row.
+use Rattle.std.specs.Prelude.{◌-◌}
+use Rattle.std.proofs.Common.{◌∙◌, arith, rules, tests}
+use Rattle.std.proofs.lemmas.Iterator.{YieldsList-from_range}
+use Rattle.std.proofs.lemmas.Iterator.Search.{all_from_yields_List}
 use Rattle.model.specs.Valid.{order, is_less}
-use Rattle.arrays.specs.Ascent.{rises_failed, rises-passed}
+use Rattle.arrays.specs.Rows.{row}
+use Rattle.arrays.specs.Chains.{rises_listed}
 use Rattle.arrays.proofs.used.rows_rise.Goals as goal
 
-pub loop-t-init : goal.loop-t-init
-loop-t-init c = (omega arith, λ k l. absurd (omega arith))
-
-pub returns-then-not-row_rises : goal.returns-then-not-row_rises
-returns-then-not-row_rises c =
-    sym (rises_failed (λ u v. is_less (order u v)) _ _ _ (omega arith) (sym c.row_rises.ensures ∙ c.if-not-row_rises.true))
-
-pub loop-t-preserved : goal.loop-t-preserved
-loop-t-preserved c =
-    let fact = sym c.row_rises.ensures ∙ c.if-not-row_rises.false in
-    (omega arith, below_more _ _ c.loop-t.invariant.1 fact)
-
 pub returns : goal.returns
-returns c = sym (rises-passed (λ u v. is_less (order u v)) _ _ (λ k l. c.loop-t.invariant.1 k (omega arith)))
+returns c =
+    let e = c.args.e.now in
+    let p = c.args.p in
+    all_from_yields_List (λ t. is_less (order (row 12 0 e (t - 1) p) (row 12 0 e t p))) _ _ _ c.all.ensures.ran (YieldsList-from_range 1 c.args.h (c.args.h - 1) (cc) (omega arith))
+    (λ x b q k. search (rules, tests))
+    ∙ rises_listed (λ u v. is_less (order u v)) (λ t. row 12 0 e t p) c.args.h

@@ -1,5 +1,4 @@
 -- `hulls::hull` meets its contract.
-use mathlib.Core.Path.{sym, ◌∙◌}
 use Prim.Native.Nat.{◌+◌}
 use Rattle.model.specs.Limits.{standard_weights}
 use Rattle.model.specs.Hull.{hull}
@@ -8,25 +7,22 @@ use Rattle.zonotope.specs.Record.{view}
 use Rattle.fields.proofs.SetLaws.{made_refused, made_summable, made_answered}
 use Rattle.fields.proofs.hulls.hull.Goals as goal
 
-pub returns-then-is_refused : goal.returns-then-is_refused
+pub returns-in_err-second : goal.returns-in_err-second
 unfolding meaning view
-returns-then-is_refused c =
+returns-in_err-second c =
     let a = c.args in let b = a.body.now in let u = view a.first in
     made_refused a.first b (too_many_blended u) (hull standard_weights a.next u) (a.next + 1)
-    c.summand-g.ensures (sym c.is_refused.ensures ∙ c.if-is_refused.true)
+    c.in_err-second.ensures c.from_residual.ensures.1
 
 pub hulled-requires : goal.hulled-requires
 hulled-requires c =
     let a = c.args in let b = a.body.now in let u = view a.first in
     made_summable a.first b (too_many_blended u) (hull standard_weights a.next u) (a.next + 1)
-    c.summand-g.ensures (sym c.is_refused.ensures ∙ c.if-is_refused.false)
-    c.requires
+    c.in_ok-second.ensures c.requires
 
 pub returns : goal.returns
 unfolding meaning view
 returns c =
-    let a = c.args in let b = a.body.now in
-    let u = view a.first in
+    let a = c.args in let b = a.body.now in let u = view a.first in
     made_answered a.first b (too_many_blended u) (hull standard_weights a.next u) (a.next + 1)
-    c.summand-g.ensures (sym c.is_refused.ensures ∙ c.if-is_refused.false)
-    c.hulled.ensures
+    c.in_ok-second.ensures c.hulled.ensures

@@ -1,20 +1,15 @@
 -- `sets::read` meets its contract.
-use mathlib.Core.Path.{sym, ◌∙◌}
 use Rattle.fields.proofs.SetLaws.{read_refused, read_accepted}
 use Rattle.fields.proofs.sets.read.Goals as goal
 
 pub set-s-requires : goal.set-s-requires
 set-s-requires c = c.requires
 
-pub of_contents-o-requires : goal.of_contents-o-requires
-of_contents-o-requires c = (c.requires, c.set-s.ensures)
+pub of_contents-requires : goal.of_contents-requires
+of_contents-requires c = (c.requires, c.set-s.ensures)
 
-pub returns-then-is_refused : goal.returns-then-is_refused
-returns-then-is_refused c =
-    read_refused c.args.body.now c.of_contents-o.ensures
-    (sym c.is_refused.ensures ∙ c.if-is_refused.true) c.empty-set.ensures
+pub returns-in_err-of_contents : goal.returns-in_err-of_contents
+returns-in_err-of_contents c = read_refused c.args.body.now c.in_err-of_contents.ensures c.from_residual.ensures.1
 
 pub returns : goal.returns
-returns c =
-    read_accepted c.args.body.now c.of_contents-o.ensures
-    (sym c.is_refused.ensures ∙ c.if-is_refused.false) c.set-s.ensures
+returns c = read_accepted c.args.body.now c.in_ok-of_contents.ensures c.set-s.ensures

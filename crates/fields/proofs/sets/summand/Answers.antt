@@ -2,45 +2,32 @@
 use mathlib.Core.Path.{sym, ◌∙◌}
 use native.Mathlib.Omega.{arith}
 use Rattle.model.specs.Body.{given_set}
-use Rattle.model.specs.Run.{no_set, first_of}
-use Rattle.zonotope.specs.Record.{pack}
-use Rattle.answers.specs.Answer.{none_refuses, answer-next}
+use Rattle.model.specs.Run.{first_of}
+use Rattle.zonotope.specs.Answer.{nothing_found}
+use Rattle.answers.specs.Answer.{result-refused, result-next}
 use Rattle.fields.specs.Sets.{of_layout}
-use Rattle.fields.proofs.SetLaws.{summand_order, other_dimension, same-dimension, refused_empty, set_body}
-use native.Mathlib.Omega.{arith}
+use Rattle.fields.proofs.SetLaws.{summand_order, other_dimension, same-dimension, set_body}
 use Rattle.fields.proofs.sets.summand.Goals as goal
 
-pub returns-then-is_refused : goal.returns-then-is_refused
-returns-then-is_refused c =
-    let a = c.args in
-    refused_empty (first_of (of_layout a.body.now)) _ c.of_layout-o.ensures (summand_order a.n a.body.now (pack no_set) (given_set a.body.now))
-    (given_set a.body.now) (sym c.is_refused.ensures ∙ c.if-is_refused.true) c.empty-set.ensures
+pub returns-in_err-of_layout : goal.returns-in_err-of_layout
+returns-in_err-of_layout c =
+    let a = c.args in let m = given_set a.body.now in
+    result-refused (first_of (of_layout a.body.now)) _ (summand_order a.n a.body.now m) m c.in_err-of_layout.ensures c.from_residual.ensures.1
 
 pub byte_at-requires : goal.byte_at-requires
-byte_at-requires c =
-    let b = c.args.body.now in
-    let h = (set_body b (none_refuses (first_of (of_layout b)) c.of_layout-o.ensures (sym c.is_refused.ensures ∙ c.if-is_refused.false))).0 in
-    omega arith
+byte_at-requires c = let h = (set_body c.args.body.now (nothing_found _ c.in_ok-of_layout.ensures)).0 in omega arith
 
 pub returns-then-byte_at-n : goal.returns-then-byte_at-n
 returns-then-byte_at-n c =
-    let a = c.args in
-    let m = given_set a.body.now in
-    answer-next (first_of (of_layout a.body.now)) _ c.of_layout-o.ensures (summand_order a.n a.body.now (pack no_set) m)
-    (pack no_set) m (sym c.is_refused.ensures ∙ c.if-is_refused.false)
-    (rw c.empty-set-then-byte_at-n.ensures (other_dimension a.n a.body.now (pack no_set) m
-    (λ e. c.if-byte_at-n.true (c.byte_at.ensures.0 ∙ e))))
+    let a = c.args in let m = given_set a.body.now in
+    result-next (first_of (of_layout a.body.now)) _ (summand_order a.n a.body.now m) m c.in_ok-of_layout.ensures
+    (other_dimension a.n a.body.now m (λ e. c.if-byte_at-n.true (c.byte_at.ensures.0 ∙ e)))
 
 pub read-requires : goal.read-requires
-read-requires c =
-    let b = c.args.body.now in
-    (set_body b (none_refuses (first_of (of_layout b)) c.of_layout-o.ensures (sym c.is_refused.ensures ∙ c.if-is_refused.false))).1
+read-requires c = (set_body c.args.body.now (nothing_found _ c.in_ok-of_layout.ensures)).1
 
 pub returns : goal.returns
 returns c =
-    let a = c.args in
-    let m = given_set a.body.now in
-    answer-next (first_of (of_layout a.body.now)) _ c.of_layout-o.ensures (summand_order a.n a.body.now (pack no_set) m)
-    (pack no_set) m (sym c.is_refused.ensures ∙ c.if-is_refused.false)
-    (same-dimension a.n a.body.now (pack no_set) m (sym c.byte_at.ensures.0 ∙ c.if-byte_at-n.false)
-    c.read.ensures)
+    let a = c.args in let m = given_set a.body.now in
+    result-next (first_of (of_layout a.body.now)) _ (summand_order a.n a.body.now m) m c.in_ok-of_layout.ensures
+    (same-dimension a.n a.body.now m (sym c.byte_at.ensures.0 ∙ c.if-byte_at-n.false) c.read.ensures)

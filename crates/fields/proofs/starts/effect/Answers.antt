@@ -3,11 +3,11 @@ use mathlib.Core.Path.{refl}
 use Rattle.model.specs.Field.{start, meaning}
 use Rattle.model.specs.Run.{no_set}
 use Rattle.zonotope.specs.Record.{pack}
-use Rattle.fields.specs.Effect.{change_effect}
+use Rattle.fields.specs.Effect.{boxed_effect}
 use Rattle.fields.proofs.starts.effect.Goals as goal
 
 pub returns : goal.returns
 unfolding meaning
 returns c =
     let a = c.args in
-    change_effect start a.body.now a.next a.first refl (pack no_set) c.given-r.ensures refl c.of_change.ensures
+    boxed_effect start a.body.now a.next (pack no_set) refl c.given.ensures refl c.boxed.ensures

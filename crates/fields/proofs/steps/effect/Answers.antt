@@ -1,15 +1,17 @@
 -- `steps::effect` meets its contract.
-use Rattle.fields.specs.Steps.{step-effect, step-used}
+use mathlib.Core.Path.{refl}
+use Rattle.model.specs.Field.{step, meaning}
+use Rattle.fields.specs.Effect.{boxed_effect}
 use Rattle.fields.proofs.steps.effect.Goals as goal
 
-pub step-r-requires : goal.step-r-requires
-step-r-requires c = c.requires
+pub step-requires : goal.step-requires
+step-requires c = c.requires
 
 pub returns : goal.returns
+unfolding meaning
 returns c =
-    let a = c.args in
-    let e = step-effect a.body.now a.next a.first a.ranged c.step-r.ensures.value c.of_change.ensures in record {
-      value = e;
-      numbers = step-used a.body.now a.next a.first a.ranged e c.step-r.ensures.numbers;
-      exponents = step-used a.body.now a.next a.first a.ranged e c.step-r.ensures.exponents;
+    let a = c.args in record {
+      value = boxed_effect step a.body.now a.next a.first refl c.step.ensures.value refl c.boxed.ensures;
+      numbers = c.step.ensures.numbers;
+      exponents = c.step.ensures.exponents;
     }

@@ -17,12 +17,12 @@ returns-then-body-lt2 c = counts-cut _ _ _ _ c.if-body-lt2.true
 pub returns-then-step_counts_out : goal.returns-then-step_counts_out
 returns-then-step_counts_out c = counts_wrong _ _ _ _ c.if-body-lt2.false (wrong (goal.at.returns-then-step_counts_out c).After-step_counts_out c.if-step_counts_out.true)
 
-pub returns-then-body-length_by_counts : goal.returns-then-body-length_by_counts
-returns-then-body-length_by_counts c =
-    length_wrong _ _ _ _ c.if-body-lt2.false (wrong (goal.at.returns-then-body-length_by_counts c).After-step_counts_out c.if-step_counts_out.false)
-    (λ e. c.if-body-length_by_counts.true (e ∙ sym c.length_by_counts.ensures))
+pub returns-then-body-step_length : goal.returns-then-body-step_length
+returns-then-body-step_length c =
+    length_wrong _ _ _ _ c.if-body-lt2.false (wrong (goal.at.returns-then-body-step_length c).After-step_counts_out c.if-step_counts_out.false)
+    (λ e. c.if-body-step_length.true (e ∙ sym c.step_length.ensures))
 
 pub returns : goal.returns
 returns c =
     nothing_wrong _ _ _ _ c.if-body-lt2.false (wrong (goal.at.returns c).After-step_counts_out c.if-step_counts_out.false)
-    (c.if-body-length_by_counts.false ∙ c.length_by_counts.ensures)
+    (c.if-body-step_length.false ∙ c.step_length.ensures)

@@ -1,5 +1,4 @@
 -- `tied_sums::tied` meets its contract.
-use mathlib.Core.Path.{sym, ◌∙◌}
 use Rattle.model.specs.Limits.{standard_weights}
 use Rattle.model.specs.Operations.{tied_sum}
 use Rattle.model.specs.Field.{meaning, too_many}
@@ -7,25 +6,22 @@ use Rattle.zonotope.specs.Record.{view}
 use Rattle.fields.proofs.SetLaws.{made_refused, made_summable, made_answered}
 use Rattle.fields.proofs.tied_sums.tied.Goals as goal
 
-pub returns-then-is_refused : goal.returns-then-is_refused
+pub returns-in_err-second : goal.returns-in_err-second
 unfolding meaning view
-returns-then-is_refused c =
+returns-in_err-second c =
     let a = c.args in let b = a.body.now in let u = view a.first in
     made_refused a.first b (too_many u) (tied_sum standard_weights u) 0
-    c.summand-g.ensures (sym c.is_refused.ensures ∙ c.if-is_refused.true)
+    c.in_err-second.ensures c.from_residual.ensures.1
 
 pub tied-requires : goal.tied-requires
 tied-requires c =
     let a = c.args in let b = a.body.now in let u = view a.first in
     made_summable a.first b (too_many u) (tied_sum standard_weights u) 0
-    c.summand-g.ensures (sym c.is_refused.ensures ∙ c.if-is_refused.false)
-    c.requires
+    c.in_ok-second.ensures c.requires
 
 pub returns : goal.returns
 unfolding meaning view
 returns c =
-    let a = c.args in let b = a.body.now in
-    let u = view a.first in
+    let a = c.args in let b = a.body.now in let u = view a.first in
     made_answered a.first b (too_many u) (tied_sum standard_weights u) 0
-    c.summand-g.ensures (sym c.is_refused.ensures ∙ c.if-is_refused.false)
-    c.tied.ensures
+    c.in_ok-second.ensures c.tied.ensures

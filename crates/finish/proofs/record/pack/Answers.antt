@@ -2,8 +2,8 @@
 use Rattle.finish.specs.Packing.{packed}
 use Rattle.finish.proofs.record.pack.Goals as goal
 
-pub narrow_radii-radii-requires : goal.narrow_radii-radii-requires
-narrow_radii-radii-requires c = c.requires.radii
+pub narrow_radii-requires : goal.narrow_radii-requires
+narrow_radii-requires c = c.requires.radii
 
 pub returns : goal.returns
 returns c =
@@ -11,4 +11,4 @@ returns c =
     let g = s.args in
     packed g.u g.k g.e.now g.heads.now g.s.now g.g.now s.requires
     (c.drop_unused-f.ensures g.s.now)
-    c.narrow_all-numbers.ensures c.narrow_radii-radii.ensures
+    c.narrow_all.ensures c.narrow_radii.ensures

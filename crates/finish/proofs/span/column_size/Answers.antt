@@ -19,7 +19,7 @@ overflow_add-sum c =
     let at = c in
     let x = at.loop-t.t * 6 + at.args.i in
     let z = get_or at.args.s.now x (pos 0) in
-    let e : c.size-sum.result ≡ nat_abs z = c.size-sum.ensures ∙ ap nat_abs (read64 z c.x-1.given) in
+    let e : c.unsigned_abs-sum.result ≡ nat_abs z = c.unsigned_abs-sum.ensures.value ∙ ap nat_abs (read64 z (search rules)) in
     let few = at.loop-t.invariant.2 in
     omega (arith, few, at.requires.3.small x)
 
@@ -29,7 +29,7 @@ loop-t-preserved c =
     let g = at.args in
     let x = at.loop-t.t * 6 + g.i in
     let z = get_or g.s.now x (pos 0) in
-    let e : c.size-sum.result ≡ nat_abs z = c.size-sum.ensures ∙ ap nat_abs (read64 z c.x-1.given) in
+    let e : c.unsigned_abs-sum.result ≡ nat_abs z = c.unsigned_abs-sum.ensures.value ∙ ap nat_abs (read64 z (search rules)) in
     let few = at.loop-t.invariant.2 in (
       omega arith,
       ap₂ ◌+◌ at.loop-t.invariant.1 e ∙ sym (upto_suc 0 ◌+◌ (λ t. nat_abs (get_or g.s.now (t * 6 + g.i) (pos 0))) at.loop-t.t),

@@ -1,31 +1,18 @@
--- `finish::span::too_wide` meets its contract: no coordinate before i is too wide.
-use borrow.Author.Count.{below_none, below_more}
-use borrow.Author.Rules.{rules}
-use native.Mathlib.Omega.{arith}
-use mathlib.Core.Path.{sym}
-use Rattle.finish.specs.Spans.{too_wide, not-too_wide}
+-- `finish::span::too_wide` meets its contract: some coordinate passes where the library finds one.
+use Rattle.std.proofs.Common.{◌∙◌, ltb, arith, rules, tests}
+use Rattle.std.proofs.lemmas.Iterator.{YieldsList-from_range}
+use Rattle.std.proofs.lemmas.Iterator.Search.{any_from_yields_List}
+use Rattle.model.specs.Limits.{max_span}
+use Rattle.arrays.specs.Chains.{some_listed}
+use Rattle.finish.specs.Spans.{held_span, wide-held}
 use Rattle.finish.proofs.span.too_wide.Goals as goal
-
-pub loop-i-init : goal.loop-i-init
-loop-i-init c = (search rules, below_none _)
-
-pub returns-then-span_at-gt-SPAN_LIMIT : goal.returns-then-span_at-gt-SPAN_LIMIT
-returns-then-span_at-gt-SPAN_LIMIT c =
-    let at = c in
-    let s = at in
-    λ e heads.
-    sym (too_wide s.args.u s.args.k e heads s.args.s.now s.args.g.now s.requires.0 at.loop-i.i (search rules)
-    (omega (arith, c.span_at.ensures, c.if-span_at-gt-SPAN_LIMIT.true)))
-
-pub loop-i-preserved : goal.loop-i-preserved
-loop-i-preserved c =
-    let at = c in
-    (omega arith, below_more _ at.loop-i.i at.loop-i.invariant.1 (omega (arith, c.span_at.ensures, c.if-span_at-gt-SPAN_LIMIT.false)))
 
 pub returns : goal.returns
 returns c =
-    let at = c in
-    let s = at in
+    let a = c.args in
+    let n = a.u.dimension in
     λ e heads.
-    sym (not-too_wide s.args.u s.args.k e heads s.args.s.now s.args.g.now s.requires.0
-    (λ j l. at.loop-i.invariant.1 j (omega arith)))
+    any_from_yields_List (λ i. ltb max_span (held_span a.u.radii a.k a.s.now a.g.now i)) _ _ _ c.any.ensures.ran (YieldsList-from_range 0 n n (cc) (omega arith))
+    (λ x b q k. search (rules, tests))
+    ∙ some_listed _ n
+    ∙ wide-held a.u a.k e heads a.s.now a.g.now c.requires.0

@@ -1,64 +1,53 @@
 -- `refusals::before_hulling` meets its contract.
-use mathlib.Core.Path.{◌≡◌, sym, ap₂, ◌∙◌}
-use mathlib.Core.Bool.{Bool, false, ◌||◌}
-use Rattle.model.specs.Library.{bad_next}
+use Rattle.std.specs.Prelude.{◌||◌, refl}
+use Rattle.std.proofs.Common.{sym, ap₂, ◌∙◌}
+use Rattle.std.proofs.lemmas.Result.{err_from_is_err_and}
 use Rattle.zonotope.specs.Record.{view, given}
-use Rattle.zonotope.specs.Answer.{refused}
+use Rattle.zonotope.specs.Answer.{refused, nothing_found}
 use Rattle.align.specs.Examined.{counts}
-use Rattle.answers.specs.Answer.{is_refused, accepting, none_refuses, refused-first, refused-not, asked-next}
+use Rattle.answers.specs.Answer.{refused-first, asked-next}
 use Rattle.summing.specs.Summable.{Summable}
 use Rattle.summing.specs.Summand.{for_sum}
 use Rattle.summing.specs.Arguments.{before_summing, summable, next-refused, next-accepted}
 use Rattle.hull.specs.Causes.{of_blend}
 use Rattle.hull.proofs.refusals.before_hulling.Goals as goal
-use Rattle.hull.proofs.refusals.before_hulling.Goals.{Else-is_refused, After-bad_next-2}
+use Rattle.hull.proofs.refusals.before_hulling.Goals.{In_ok-before_summing}
 
 -- what is known where neither set is refused
-passes : (i : Else-is_refused) → is_refused i.before_summing-o.result ≡ false
-passes i = sym i.is_refused.ensures ∙ i.if-is_refused.false
-
-both : (i : Else-is_refused) → let a = i.args in Summable a.first a.second
+both : (i : In_ok-before_summing) → Summable i.args.first i.args.second
 both i =
-    let a = i.args in
-    let o = i.before_summing-o.ensures in
-    summable a.first a.second (o.sized (accepting _ (passes i))) (none_refuses _ o.value (passes i))
+    let o = i.in_ok-before_summing.ensures in
+    summable i.args.first i.args.second (o.sized refl) (nothing_found _ o.value)
 
--- what the test of the next identifier says, where its answer is b
-blend : (t : After-bad_next-2) {b : Bool} → (t.bad_next.result || t.bad_next-2.result) ≡ b
-    → let a = t.args in
-    (bad_next a.next (view a.first) || bad_next a.next (view a.second)) ≡ b
-blend t e = sym (ap₂ ◌||◌ t.bad_next.ensures t.bad_next-2.ensures) ∙ e
-
-pub returns-then-is_refused : goal.returns-then-is_refused
-returns-then-is_refused c =
+pub returns-in_err-before_summing : goal.returns-in_err-before_summing
+returns-in_err-before_summing c =
     let a = c.args in
-    let no = sym c.is_refused.ensures ∙ c.if-is_refused.true in record {
+    let p = err_from_is_err_and c.from_residual.result c.from_residual.ensures.1 in record {
       value = refused-first (before_summing (given a.first) (given a.second)) (of_blend a.next (view a.first) (view a.second))
-          c.before_summing-o.ensures.value no;
-      sized = refused-not no;
+          c.in_err-before_summing.ensures.value c.from_residual.ensures.1;
+      sized = λ e. absurd cc;
     }
 
 pub bad_next-requires : goal.bad_next-requires
-bad_next-requires c = (counts _ (for_sum _ (both c).first)).factors_few
+bad_next-requires c = (counts _ (for_sum _ (both (goal.at.bad_next-requires c).In_ok-before_summing).first)).factors_few
 
 pub bad_next-requires-2 : goal.bad_next-requires-2
-bad_next-requires-2 c = (counts _ (for_sum _ (both c.before).second)).factors_few
+bad_next-requires-2 c = (counts _ (for_sum _ (both (goal.at.bad_next-requires-2 c).In_ok-before_summing).second)).factors_few
 
 pub returns-then-bad_next : goal.returns-then-bad_next
 returns-then-bad_next c =
-    let i = c in
-    let a = i.args in record {
+    let a = c.args in record {
       value = asked-next (before_summing (given a.first) (given a.second)) (of_blend a.next (view a.first) (view a.second))
-          i.before_summing-o.ensures.value (passes c.before.before.before) (next-refused _ (blend c.before c.if-bad_next.true));
+          c.in_ok-before_summing.ensures.value
+          (next-refused _ (sym (ap₂ ◌||◌ c.bad_next.ensures c.bad_next-2.ensures) ∙ c.if-bad_next.true));
       sized = refused 11;
     }
 
 pub returns : goal.returns
 returns c =
-    let i = c in
-    let a = i.args in
-    let o = i.before_summing-o.ensures in record {
+    let a = c.args in
+    let o = c.in_ok-before_summing.ensures in record {
       value = asked-next (before_summing (given a.first) (given a.second)) (of_blend a.next (view a.first) (view a.second)) o.value
-          (passes c.before.before.before) (next-accepted _ (blend c.before c.if-bad_next.false));
-      sized = λ e. o.sized (accepting _ (passes c.before.before.before));
+          (next-accepted _ (sym (ap₂ ◌||◌ c.bad_next.ensures c.bad_next-2.ensures) ∙ c.if-bad_next.false));
+      sized = λ e. o.sized refl;
     }

@@ -1,41 +1,40 @@
 -- `image::rounding::add_row` meets its contract: each counter is read, grown and written in turn.
-use native.Mathlib.Omega.{arith}
-use mathlib.Core.Path.{◌≡◌, ap, ap₂, ◌∙◌}
-use Prim.Native.Nat.{ℕ, ◌+◌}
-use lib.ListN.{get_or}
-use Rattle.whole.specs.Fits.{read64}
+use Rattle.std.proofs.Common.{rules, arith, ◌≡◌, ◌∙◌, ap₂, ℕ, ◌+◌, get_or}
 use Rattle.whole.specs.Round.{inexact}
+use Rattle.whole.specs.Write.{write-all}
 use Rattle.forms.specs.Tables.{row_of}
-use Rattle.forms.specs.Filling.{filling_begins, filling_again, filling_ends}
+use Rattle.forms.specs.Filling.{writing_begins, first-again, writing_ends}
 use Rattle.image.specs.Rounding.{inexact_small}
-use Rattle.image.specs.Counting.{filling_rest}
+use Rattle.image.specs.Counting.{writing_rest}
 use Rattle.image.proofs.rounding.add_row.Goals as goal
 use Rattle.image.proofs.rounding.add_row.Goals.{Start, After-count_inexact}
 
-module _ (s : Start) where
-  abbrev F : ℕ → ℕ
-  F y = get_or s.args.out.now y 0 + inexact (row_of s.args.w.now s.args.t y)
+abbrev F : Start → ℕ → ℕ
+F s y = get_or s.args.out.now y 0 + inexact (row_of s.args.w.now s.args.t y)
 
 module _ (c : After-count_inexact) where
   -- the counter still holds its first number
-  held : get_or c.loop-x.out c.loop-x.x 0 ≡ get_or c.args.out.now c.loop-x.x 0
-  held = filling_rest 6 (F (goal.at.After-count_inexact c).Start) _ 0 c.loop-x.x c.loop-x.out c.loop-x.invariant
+  held : get_or c.loop-i.out c.loop-i.i 0 ≡ get_or c.args.out.now c.loop-i.i 0
+  held = writing_rest 6 (F (goal.at.After-count_inexact c).Start) _ 0 c.loop-i.i c.loop-i.out c.loop-i.invariant
 
-  one : c.count_inexact.result ≡ inexact (row_of c.args.w.now c.args.t c.loop-x.x)
-  one = c.count_inexact.ensures ∙ ap inexact (read64 (row_of c.args.w.now c.args.t c.loop-x.x)
-      c.v-1.given)
+  one : c.count_inexact.result ≡ inexact (row_of c.args.w.now c.args.t c.loop-i.i)
+  one = search rules
 
-pub loop-x-init : goal.loop-x-init
-loop-x-init c = filling_begins 6 (F c) _ c.requires.2
+pub loop-i-init : goal.loop-i-init
+loop-i-init c = writing_begins _ 0 (F c) 6
 
-pub overflow_add-out : goal.overflow_add-out
-overflow_add-out c =
-    let small = inexact_small (row_of c.args.w.now c.args.t c.loop-x.x) in
-    record { fits = omega (arith, c.requires.3.below c.loop-x.x, held (goal.at.overflow_add-out c).After-count_inexact, one (goal.at.overflow_add-out c).After-count_inexact, small) }
+pub overflow_add-count : goal.overflow_add-count
+overflow_add-count c =
+    let s = (goal.at.overflow_add-count c).After-count_inexact in
+    let small = inexact_small (row_of c.args.w.now c.args.t c.loop-i.i) in
+    record { fits = omega (arith, c.requires.2.below c.loop-i.i, held s, one s, small) }
 
-pub loop-x-preserved : goal.loop-x-preserved
-loop-x-preserved c =
-    filling_again 6 (F (goal.at.loop-x-preserved c).Start) _ c.loop-x.x c.loop-x.out _ c.loop-x.invariant (omega arith) (ap₂ ◌+◌ (held (goal.at.loop-x-preserved c).After-count_inexact) (one (goal.at.loop-x-preserved c).After-count_inexact))
+pub loop-i-preserved : goal.loop-i-preserved
+loop-i-preserved c =
+    let s = (goal.at.loop-i-preserved c).After-count_inexact in
+    first-again _ (F (goal.at.loop-i-preserved c).Start) 6 c.loop-i.i c.loop-i.out _ c.loop-i.invariant (omega arith) (ap₂ ◌+◌ (held s) (one s))
 
 pub returns : goal.returns
-returns c = filling_ends 6 (F (goal.at.returns c).Start) _ 0 c.loop-x.x c.loop-x.out c.loop-x.invariant (omega arith)
+returns c =
+    let f = F (goal.at.returns c).Start in
+    writing_ends _ 0 f 6 c.loop-i.i c.loop-i.out c.loop-i.invariant (omega arith) ∙ write-all c.args.out.now f 0 6 c.told-out

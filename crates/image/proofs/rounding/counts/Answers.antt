@@ -3,11 +3,11 @@ use borrow.Author.Rules.{rules}
 use native.Mathlib.Omega.{arith}
 use lib.ListN.{replicate}
 use Rattle.image.specs.Remainder.{zeros-below}
-use Rattle.image.specs.Counting.{grown-below, grown-long, counts-from}
+use Rattle.image.specs.Counting.{grown-below, counts-from}
 use Rattle.image.proofs.rounding.counts.Goals as goal
 
 pub add_rows-requires : goal.add_rows-requires
-add_rows-requires c = (search rules, search rules, search rules, zeros-below 1000 6)
+add_rows-requires c = (search rules, search rules, zeros-below 1000 6)
 
 pub add_rows-requires-2 : goal.add_rows-requires-2
 add_rows-requires-2 c =
@@ -15,7 +15,6 @@ add_rows-requires-2 c =
     let one = c.add_rows.ensures in (
       search rules,
       search rules,
-      grown-long (replicate 6 0) g.centre.now 1 _ one,
       grown-below (replicate 6 0) g.centre.now 1 _ one 0 1000 (zeros-below 0 6) (omega arith),
     )
 
@@ -27,7 +26,6 @@ add_rows-requires-3 c =
     let small = grown-below (replicate 6 0) g.centre.now 1 _ first.ensures 0 1 (zeros-below 0 6) (omega arith) in (
       search rules,
       search rules,
-      grown-long first.new.out g.w.now g.rows _ two,
       grown-below first.new.out g.w.now g.rows _ two 1 1000 small (omega arith),
     )
 

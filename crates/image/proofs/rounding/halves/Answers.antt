@@ -1,18 +1,7 @@
--- `image::rounding::halves` meets its contract: each place is filled in turn.
-use borrow.Author.Rules.{rules}
-use native.Mathlib.Omega.{arith}
-use Rattle.forms.specs.Filling.{filling_begins, filling_again, filling_ends}
+-- `image::rounding::halves` meets its contract: each place is made in turn.
+use Rattle.std.proofs.Common.{rules}
+use Rattle.forms.specs.Made.{made}
 use Rattle.image.proofs.rounding.halves.Goals as goal
-use Rattle.image.proofs.rounding.halves.Invariants.{half}
-
-pub loop-x-init : goal.loop-x-init
-loop-x-init c = filling_begins 6 (half c.args.counts.now) _ (search rules)
-
-pub loop-x-preserved : goal.loop-x-preserved
-loop-x-preserved c =
-    filling_again 6 (half c.args.counts.now) _ c.loop-x.x c.loop-x.halved _ c.loop-x.invariant (omega arith)
-    c.half_up-y.ensures
 
 pub returns : goal.returns
-returns c =
-    filling_ends 6 (half c.args.counts.now) _ 0 c.loop-x.x c.loop-x.halved c.loop-x.invariant (omega arith)
+returns c = made _ _ 0 (λ i x q l k. search rules) c.from_fn.ensures.items

@@ -1,24 +1,23 @@
--- `raw::parts::centre` meets its contract.
-use borrow.Author.Rules.{rules}
+-- `raw::parts::centre` meets its contract: each place is made in turn.
+use Rattle.std.proofs.Common.{rules, pos}
 use Rattle.rows.specs.Rows.{Small}
-use Rattle.raw.specs.Accepted.{RowsSized}
+use Rattle.forms.specs.Made.{made, callable}
 use Rattle.raw.specs.Limits.{centre_small}
 use Rattle.raw.specs.Parts.{raw-centre}
 use Rattle.raw.proofs.parts.centre.Goals as goal
 use Rattle.raw.proofs.parts.centre.Goals.{Start}
 
-sized : (s : Start) → RowsSized s.args.s
-sized s = record { centre = search rules; exponents = search rules; coefficients = search rules; vectors = search rules }
-
 small : (s : Start) → Small 1048576 s.args.s.centre
-small s = centre_small s.args.s s.requires.3 (sized s)
+small s =
+    centre_small s.args.s s.requires.3
+    (record { centre = search rules; exponents = search rules; coefficients = search rules; vectors = search rules })
 
-pub centre_numbers-requires : goal.centre_numbers-requires
-centre_numbers-requires c =
-    let s = c in (s.requires.0, s.requires.1, s.requires.2, small c.before.before)
+pub from_fn-requires : goal.from_fn-requires
+from_fn-requires c =
+    let k = small (goal.at.from_fn-requires c).Start in
+    (search rules, callable 6 (λ i l. search rules) (λ i x q k. search rules))
 
 pub returns : goal.returns
 returns c =
-    let s = c in
-    raw-centre s.args.c.now s.args.a.now s.args.lines.now s.args.s s.requires.3 s.requires.0 s.requires.1 s.requires.2 (small c.before.before.before)
-    _ c.centre_numbers.ensures
+    raw-centre c.args.c.now c.args.a.now c.args.lines.now c.args.s c.requires.3 c.requires.0 c.requires.1 c.requires.2
+    (small (goal.at.returns c).Start) _ (made _ 6 (pos 0) (λ i x q l k. search rules) c.from_fn.ensures.items)

@@ -1,27 +1,20 @@
--- `fitness::totals_out` meets its contract: no total passed is too large.
-use borrow.Author.Rules.{rules}
-use borrow.Author.Count.{below_more}
-use borrow.Author.Tests.{lt-ltb, le-ltb}
-use native.Mathlib.Omega.{arith}
-use mathlib.Core.Path.{◌≡◌, sym}
-use lib.ListN.{length}
-use Rattle.run.specs.Unfit.{total_out, totals_good}
+-- `fitness::totals_out` meets its contract.
+use Rattle.std.proofs.Common.{◌≡◌, Bool, List, [], ◌∷◌, ◌||◌, refl, ap, ◌∙◌, rules}
+use borrow.Author.Tests.{tests}
+use Rattle.std.specs.List.{list_any}
+use Rattle.std.proofs.lemmas.Iterator.{YieldsList-from_slice}
+use Rattle.std.proofs.lemmas.Iterator.Search.{any_from_yields_List}
+use Rattle.std.specs.Prelude.{ltb}
+use Rattle.whole.specs.Tab.{any}
+use Rattle.model.specs.Limits.{max_total}
 use Rattle.run.proofs.fitness.totals_out.Goals as goal
-use Rattle.run.proofs.fitness.totals_out.Goals.{Start}
 
-six : (s : Start) → length s.args.totals ≡ 6
-six s = search rules
-
-pub loop-i-init : goal.loop-i-init
-loop-i-init c = (omega arith, λ k l. absurd (omega arith))
-
-pub returns-then-totals-i-gt-MAX_TOTAL : goal.returns-then-totals-i-gt-MAX_TOTAL
-returns-then-totals-i-gt-MAX_TOTAL c =
-    sym (total_out c.args.totals c.loop-i.i (omega (arith, six (goal.at.returns-then-totals-i-gt-MAX_TOTAL c).Start, c.loop-i-test.true)) (lt-ltb _ _ c.if-totals-i-gt-MAX_TOTAL.true))
-
-pub loop-i-preserved : goal.loop-i-preserved
-loop-i-preserved c = (omega arith, below_more _ _ c.loop-i.invariant.1 (le-ltb _ _ c.if-totals-i-gt-MAX_TOTAL.false))
+same : {A : Type 0} (p : A → Bool) (l : List A) → list_any p l ≡ any p l
+unfolding any
+same p [] = refl
+same p (x ∷ l) = ap (p x ||◌) (same p l)
 
 pub returns : goal.returns
 returns c =
-    sym (totals_good c.args.totals (λ k l. c.loop-i.invariant.1 k (omega (arith, six (goal.at.returns c).Start, l))))
+    any_from_yields_List (ltb max_total) _ _ _ c.any.ensures.ran (YieldsList-from_slice c.args.totals cc) (λ x b q k. search (rules, tests))
+    ∙ same (ltb max_total) c.args.totals

@@ -1,14 +1,8 @@
--- `select::marks::any_high` meets its contract: none of the first k terms has such an exponent.
-use mathlib.Core.Bool.{false}
-use mathlib.Core.Path.{◌≡◌}
-use Prim.Native.Nat.{ℕ, ◌-◌, ◌<◌, ◌≤◌}
-use lib.ListN.{get_or}
+-- `select::marks::any_high` meets its contract: none of the first terms has such an exponent.
+use Rattle.std.proofs.Common.{◌≡◌, ℕ, ◌<◌, get_or, false}
 use Rattle.rows.specs.Rows.{exponent_row}
-use Rattle.select.specs.Stage.{test}
+use Rattle.select.specs.Stage.{high}
 use Rattle.select.proofs.marks.any_high.Given as goal
 
-abbrev pub invariant-loop-k : goal.invariant-loop-k
-invariant-loop-k l = (l.k ≤ l.n) × ((i : ℕ) → i < l.k → test false (exponent_row l.e (get_or l.heads i 0)) ≡ false)
-
-abbrev pub decreases-loop-k : goal.decreases-loop-k
-decreases-loop-k l = l.n - l.k
+abbrev pub invariant-loop-x : goal.invariant-loop-x
+invariant-loop-x l = (i : ℕ) → i < l.x-index → high (exponent_row l.e (get_or l.heads i 0)) ≡ false

@@ -1,17 +1,8 @@
 -- `work::clear_numbers` meets its contract.
-use native.Mathlib.Omega.{arith}
-use mathlib.Core.Path.{refl}
-use lib.IntN.{pos}
-use Rattle.forms.specs.Filling.{writing_begins, first-again}
-use Rattle.stepping.specs.Work.{work_numbers}
-use Rattle.stepping.specs.Cleared.{clearing_ends}
+use Rattle.std.proofs.Common.{ap, ◌∙◌, ℕ, ◌++◌, replicate, drop, length-take-le, pos}
 use Rattle.stepping.proofs.work.clear_numbers.Goals as goal
 
-pub loop-i-init : goal.loop-i-init
-loop-i-init c = writing_begins _ _ _ _
-
-pub loop-i-preserved : goal.loop-i-preserved
-loop-i-preserved c = let at = c in first-again _ _ _ _ _ _ at.loop-i.invariant (omega arith) refl
-
 pub returns : goal.returns
-returns c = let at = c in clearing_ends (pos 0) work_numbers _ at.requires _ _ at.loop-i.invariant (omega arith)
+returns c =
+    ap (◌++ drop 5160 c.args.w.now)
+    (c.fill.ensures.after (λ y e. e) ∙ ap (λ (n : ℕ). replicate n (pos 0)) (length-take-le 5160 c.args.w.now c.requires))

@@ -7,18 +7,17 @@ use Rattle.summing.specs.Disturb.{added}
 use Rattle.summing.proofs.disturbance.add_radii.Goals as goal
 
 pub loop-i-init : goal.loop-i-init
-loop-i-init c = (refl, omega arith, sym (write_none _ _ _))
+loop-i-init c = sym (write_none _ _ _)
 
 pub overflow_add-out : goal.overflow_add-out
 overflow_add-out c = let at = c in omega (arith, at.requires.1 at.loop-i.i (omega arith))
 
 pub loop-i-preserved : goal.loop-i-preserved
 loop-i-preserved c =
-    let at = c in
-    (refl, omega arith, write-next _ _ at.loop-i.out at.loop-i.i _ at.loop-i.invariant.2 refl)
+    write-next _ _ c.loop-i.out c.loop-i.i _ c.loop-i.invariant refl
 
 pub returns : goal.returns
 returns c =
     let at = c in
     let e : at.loop-i.i ≡ length at.args.radii.now = omega arith in
-    at.loop-i.invariant.2 ∙ ap (write _ _ _) e ∙ added at.args.own at.args.radii.now (omega arith) at.requires.0
+    at.loop-i.invariant ∙ ap (write _ _ _) e ∙ added at.args.own at.args.radii.now (omega arith) at.requires.0

@@ -1,13 +1,9 @@
 -- `disturbance::add_radii` meets its contract.
 use mathlib.Core.Path.{◌≡◌}
-use Prim.Native.Nat.{◌+◌, ◌-◌, ◌≤◌}
-use lib.ListN.{length, get_or}
+use Prim.Native.Nat.{◌+◌}
+use lib.ListN.{get_or}
 use Rattle.whole.specs.Write.{write}
 use Rattle.summing.proofs.disturbance.add_radii.Given as goal
 
 abbrev pub invariant-loop-i : goal.invariant-loop-i
-invariant-loop-i l =
-    (l.i-end ≡ length l.radii) × (l.i ≤ length l.radii) × (l.out ≡ write l.own 0 (λ k. get_or l.own k 0 + get_or l.radii k 0) l.i)
-
-abbrev pub decreases-loop-i : goal.decreases-loop-i
-decreases-loop-i l = length l.radii - l.i
+invariant-loop-i l = l.out ≡ write l.own 0 (λ k. get_or l.own k 0 + get_or l.radii k 0) l.i

@@ -11,7 +11,7 @@ use Rattle.arrays.specs.Rows.{span_at}
 use Rattle.zonotope.specs.Record.{view}
 use Rattle.zonotope.specs.Counts.{InLimits}
 use Rattle.zonotope.specs.View.{view-wide}
-use Rattle.answers.specs.Answer.{answer-wide, answer-narrow}
+use Rattle.answers.specs.Answer.{settled-wide, settled-narrow}
 use Rattle.summing.specs.Disturb.{disturbed_limits, disturbed-width}
 use Rattle.summing.proofs.disturbance.disturbed.Goals as goal
 use Rattle.summing.proofs.disturbance.disturbed.Lts as lts
@@ -44,8 +44,8 @@ too_wide-requires c =
     (l.dimension, l.terms, l.generators, c.totals-totals.ensures.1)
 
 pub returns-then-too_wide : goal.returns-then-too_wide
-returns-then-too_wide c = answer-wide _ _ (sym (width c.before.before) ∙ c.if-too_wide.true)
+returns-then-too_wide c = settled-wide _ (sym (width c.before.before) ∙ c.if-too_wide.true)
 
 pub returns : goal.returns
 returns c =
-    answer-narrow _ _ _ (changed c.before.before).with_radii-t.ensures (sym (width c.before.before) ∙ c.if-too_wide.false)
+    settled-narrow _ (changed c.before.before).with_radii-t.ensures (sym (width c.before.before) ∙ c.if-too_wide.false)

@@ -5,5 +5,5 @@ use Rattle.summing.proofs.reduction.unfinished.Goals as goal
 pub returns : goal.returns
 returns c =
     let w = c in
-    unfinished-parts w.args.s w.widen_numbers.ensures c.widen_radii-radii.ensures
+    unfinished-parts w.args.s w.widen_numbers.ensures c.widen_radii.ensures
     w.requires.radii

@@ -5,15 +5,13 @@ use Rattle.whole.specs.Write.{write, write_none, write-next, write-all}
 use Rattle.summing.proofs.reduction.widen_part.Goals as goal
 
 pub loop-i-init : goal.loop-i-init
-loop-i-init c = (omega arith, sym (write_none _ _ _))
+loop-i-init c = sym (write_none _ _ _)
 
 pub loop-i-preserved : goal.loop-i-preserved
 loop-i-preserved c =
-    let at = c in
-    (omega arith, write-next _ _ at.loop-i.out at.loop-i.i _ at.loop-i.invariant.1 c.widen_u32.ensures.0)
+    write-next _ _ c.loop-i.out c.loop-i.i _ c.loop-i.invariant c.from.ensures
 
 pub returns : goal.returns
 returns c =
-    let at = c in
-    let e : at.loop-i.i ≡ 6 = omega arith in
-    at.loop-i.invariant.1 ∙ ap (write _ _ _) e ∙ write-all _ _ 0 6 refl
+    let e : c.loop-i.i ≡ 6 = omega arith in
+    c.loop-i.invariant ∙ ap (write _ _ _) e ∙ write-all _ _ 0 6 refl

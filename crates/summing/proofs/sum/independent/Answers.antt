@@ -4,9 +4,8 @@ use Rattle.model.specs.Limits.{standard_weights}
 use Rattle.model.specs.Operations.{renumbered, independent_sum}
 use Rattle.zonotope.specs.Record.{view}
 use Rattle.answers.specs.Answer.{of_result}
-use Rattle.answers.proofs.Settled.{settled-result}
 use Rattle.summing.specs.Summand.{for_sum}
-use Rattle.summing.specs.Summable.{answer-many, answer_few}
+use Rattle.summing.specs.Summable.{result-many, result_few}
 use Rattle.summing.specs.Summed.{factors-many, factors_common}
 use Rattle.summing.proofs.sum.independent.Goals as goal
 
@@ -19,11 +18,11 @@ returns-then-too_many c =
     let a = t.args in
     let u = renumbered a.next (view a.second) in
     let m = independent_sum standard_weights a.next (view a.first) (view a.second) in
-    answer-many (view a.first) u (of_result m) a.first m
+    result-many (view a.first) u (of_result m) m
     (sym (factors-many (view a.first) u t.independent_identifiers-all.ensures) ∙ sym c.too_many.ensures ∙ c.if-too_many.true)
 
-pub independent_finished-f-requires : goal.independent_finished-f-requires
-independent_finished-f-requires c =
+pub independent_finished-requires : goal.independent_finished-requires
+independent_finished-requires c =
     let t = c in
     let a = t.args in (
       t.requires.0,
@@ -39,6 +38,6 @@ returns c =
     let a = t.args in
     let u = renumbered a.next (view a.second) in
     let m = independent_sum standard_weights a.next (view a.first) (view a.second) in
-    answer_few (view a.first) u (of_result m) a.first m
+    result_few (view a.first) u (of_result m) m
     (sym (factors-many (view a.first) u t.independent_identifiers-all.ensures) ∙ sym i.too_many.ensures ∙ i.if-too_many.false)
-    (settled-result a.first m c.settle.ensures c.independent_finished-f.ensures)
+    c.independent_finished.ensures

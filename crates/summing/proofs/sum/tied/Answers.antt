@@ -4,9 +4,8 @@ use Rattle.model.specs.Limits.{standard_weights}
 use Rattle.model.specs.Operations.{tied_sum}
 use Rattle.zonotope.specs.Record.{view}
 use Rattle.answers.specs.Answer.{of_result}
-use Rattle.answers.proofs.Settled.{settled-result}
 use Rattle.summing.specs.Summand.{for_sum}
-use Rattle.summing.specs.Summable.{answer-many, answer_few}
+use Rattle.summing.specs.Summable.{result-many, result_few}
 use Rattle.summing.specs.Summed.{factors-many, factors_common}
 use Rattle.summing.proofs.sum.tied.Goals as goal
 
@@ -18,12 +17,12 @@ returns-then-too_many c =
     let t = c in
     let a = t.args in
     let m = tied_sum standard_weights (view a.first) (view a.second) in
-    answer-many (view a.first) (view a.second) (of_result m) a.first m
+    result-many (view a.first) (view a.second) (of_result m) m
     (sym (factors-many (view a.first) (view a.second) t.tied_identifiers-all.ensures) ∙ sym c.too_many.ensures
     ∙ c.if-too_many.true)
 
-pub tied_finished-f-requires : goal.tied_finished-f-requires
-tied_finished-f-requires c =
+pub tied_finished-requires : goal.tied_finished-requires
+tied_finished-requires c =
     let t = c in
     let a = t.args in (
       t.requires,
@@ -37,7 +36,7 @@ returns c =
     let t = i in
     let a = t.args in
     let m = tied_sum standard_weights (view a.first) (view a.second) in
-    answer_few (view a.first) (view a.second) (of_result m) a.first m
+    result_few (view a.first) (view a.second) (of_result m) m
     (sym (factors-many (view a.first) (view a.second) t.tied_identifiers-all.ensures) ∙ sym i.too_many.ensures
     ∙ i.if-too_many.false)
-    (settled-result a.first m c.settle.ensures c.tied_finished-f.ensures)
+    c.tied_finished.ensures

@@ -1,19 +1,18 @@
 -- `refusals::any_above` meets its contract.
-use native.Mathlib.Omega.{arith}
-use mathlib.Core.Path.{refl, sym, ◌∙◌}
-use borrow.Author.Count.{below_more}
-use borrow.Author.Tests.{lt-ltb, le-ltb}
-use Rattle.whole.specs.Tests.{any_found, any_none, any_list}
+use Rattle.std.specs.Prelude.{◌≡◌, Bool, List, [], ◌∷◌, ◌||◌, refl, ltb}
+use Rattle.std.proofs.Common.{ap, ◌∙◌, rules, tests}
+use Rattle.std.specs.List.{list_any}
+use Rattle.std.proofs.lemmas.Iterator.{YieldsList-from_slice}
+use Rattle.std.proofs.lemmas.Iterator.Search.{any_from_yields_List}
+use Rattle.whole.specs.Tab.{any}
 use Rattle.sums.proofs.refusals.any_above.Goals as goal
 
-pub loop-i-init : goal.loop-i-init
-loop-i-init c = (refl, omega arith, λ k l. absurd (omega arith))
-
-pub returns-then-limit-radii : goal.returns-then-limit-radii
-returns-then-limit-radii c = sym (any_list _ 0 _ ∙ any_found _ _ _ _ (omega arith) (lt-ltb _ _ c.if-limit-radii.true))
-
-pub loop-i-preserved : goal.loop-i-preserved
-loop-i-preserved c = (refl, omega arith, below_more _ _ c.loop-i.invariant.2 (le-ltb _ _ c.if-limit-radii.false))
+same : {A : Type 0} (p : A → Bool) (l : List A) → list_any p l ≡ any p l
+unfolding any
+same p [] = refl
+same p (x ∷ l) = ap (p x ||◌) (same p l)
 
 pub returns : goal.returns
-returns c = sym (any_list _ 0 _ ∙ any_none _ _ _ (λ k l. c.loop-i.invariant.2 k (omega arith)))
+returns c =
+    any_from_yields_List (ltb c.args.limit) _ _ _ c.any.ensures.ran (YieldsList-from_slice c.args.radii.now cc) (λ x b q k. search (rules, tests))
+    ∙ same (ltb c.args.limit) c.args.radii.now

@@ -1,29 +1,27 @@
 -- `refusals::before_disturbing` meets its contract.
-use mathlib.Core.Path.{sym, ◌∙◌}
+use Rattle.std.specs.Prelude.{refl}
+use Rattle.std.proofs.lemmas.Result.{err_from_is_err_and}
 use Rattle.zonotope.specs.Record.{view, given}
 use Rattle.model.specs.Run.{first_of}
 use Rattle.model.specs.Library.{of_radii, examine}
-use Rattle.answers.specs.Answer.{accepting, refused-first, asked-next}
+use Rattle.answers.specs.Answer.{refused-first, asked-next}
 use Rattle.sums.proofs.refusals.before_disturbing.Goals as goal
 
-pub returns-then-is_refused : goal.returns-then-is_refused
+pub returns-in_err-examine : goal.returns-in_err-examine
 unfolding view
-returns-then-is_refused c =
-    let x = c.examine-o.ensures in
-    let a = c.args in record {
-      value = refused-first (examine (given a.s)) (first_of (of_radii a.n a.radii.now a.s.dimension)) x.value
-          (sym c.is_refused.ensures ∙ c.if-is_refused.true);
-      sized = x.sized;
+returns-in_err-examine c =
+    let a = c.args in
+    let p = err_from_is_err_and c.from_residual.result c.from_residual.ensures.1 in record {
+      value = refused-first (examine (given a.s)) (first_of (of_radii a.n a.radii.now a.s.dimension)) c.in_err-examine.ensures.value
+          c.from_residual.ensures.1;
+      sized = λ e. absurd cc;
     }
 
 pub returns : goal.returns
 unfolding view
 returns c =
-    let i = c in
-    let x = i.examine-o.ensures in
-    let a = i.args in
-    let yes = sym i.is_refused.ensures ∙ i.if-is_refused.false in record {
-      value = asked-next (examine (given a.s)) (first_of (of_radii a.n a.radii.now a.s.dimension)) x.value yes c.of_radii.ensures;
-      sized = λ
-          e. x.sized (accepting _ yes);
+    let x = c.in_ok-examine.ensures in
+    let a = c.args in record {
+      value = asked-next (examine (given a.s)) (first_of (of_radii a.n a.radii.now a.s.dimension)) x.value c.of_radii.ensures;
+      sized = λ e. x.sized refl;
     }

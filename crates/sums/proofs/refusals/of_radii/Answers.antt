@@ -11,8 +11,7 @@ use Rattle.model.specs.Limits.{max_disturbance}
 use Rattle.model.specs.Run.{first_of}
 use Rattle.model.specs.Field.{bad_dimension, all_zero}
 use Rattle.model.specs.Library.{of_radii}
-use Rattle.zonotope.specs.declared.Examined.TheVariants.{Accepted, Refused}
-use Rattle.zonotope.specs.Answer.{examined}
+use Rattle.zonotope.specs.Answer.{Accepted, Refused, examined}
 use Rattle.sums.proofs.refusals.of_radii.Goals as goal
 use Rattle.sums.proofs.refusals.of_radii.Lts as lts
 use Rattle.sums.proofs.refusals.of_radii.Tie as tie

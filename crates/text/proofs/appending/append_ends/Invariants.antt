@@ -1,15 +1,11 @@
--- `text::appending::append_ends` meets its contract: two ends a turn.
-use mathlib.Core.Path.{◌≡◌}
-use Prim.Native.Nat.{◌*◌, ◌-◌, ◌≤◌}
-use lib.ListN.{length}
+-- `text::appending::append_ends` meets its contract: after i turns the ends of the first i coordinates stand from the place on.
+use Rattle.std.specs.Prelude.{◌*◌, length}
 use Rattle.model.specs.Text.{ends}
 use Rattle.text.specs.Appended.{Appended}
 use Rattle.text.specs.Pieces.{firsts, spaced}
 use Rattle.text.proofs.appending.append_ends.Given as goal
 
-abbrev pub invariant-loop-i : goal.invariant-loop-i
-invariant-loop-i l =
-    (l.i ≤ l.n) × Appended (44 * l.i) l.initial.out l.out l.at l.o (spaced (ends (firsts l.i l.low) (firsts l.i l.high))) × (length l.out ≡ length l.initial.out)
-
-abbrev pub decreases-loop-i : goal.decreases-loop-i
-decreases-loop-i l = l.n - l.i
+abbrev pub invariant-loop-low : goal.invariant-loop-low
+invariant-loop-low l =
+    let i = length l.yielded in
+    Appended (42 * i) l.initial.out l.out l.at l.next (spaced (ends (firsts i l.lows) (firsts i l.highs)))

@@ -5,4 +5,4 @@ use Rattle.text.proofs.appending.append_item.Goals as goal
 
 pub returns : goal.returns
 unfolding ascii
-returns c = both c.append-next.ensures c.append_number.ensures
+returns g c = both c.append-next.ensures c.append_number.ensures

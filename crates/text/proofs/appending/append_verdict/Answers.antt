@@ -5,8 +5,8 @@ use Rattle.text.proofs.appending.append_verdict.Goals as goal
 
 pub returns-then-safe : goal.returns-then-safe
 unfolding ascii
-returns-then-safe c = let word = c in safe_put _ word.if-safe.true word.append.ensures
+returns-then-safe c = safe_put _ c.if-safe.true c.append.ensures
 
-pub returns : goal.returns
+pub returns-else-safe : goal.returns-else-safe
 unfolding ascii
-returns c = let word = c in unknown_put _ word.if-safe.false word.append-2.ensures
+returns-else-safe c = unknown_put _ c.if-safe.false c.append-else-safe.ensures

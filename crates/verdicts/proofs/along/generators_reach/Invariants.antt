@@ -5,7 +5,7 @@ use Rattle.verdicts.specs.Along.{row_bound, size_sum}
 use Rattle.verdicts.proofs.along.generators_reach.Given as goal
 
 abbrev pub invariant-loop-g : goal.invariant-loop-g
-invariant-loop-g l = (l.g ≤ l.q) × (l.sum ≡ size_sum l.a l.xs l.n l.g) × (l.sum ≤ l.g * row_bound)
+invariant-loop-g l = (l.g ≤ l.s.generators) × (l.sum ≡ size_sum l.a l.s.vectors l.s.dimension l.g) × (l.sum ≤ l.g * row_bound)
 
 abbrev pub decreases-loop-g : goal.decreases-loop-g
-decreases-loop-g l = l.q - l.g
+decreases-loop-g l = l.s.generators - l.g

@@ -1,38 +1,18 @@
--- `columns::greatest` meets its contract, by the sign.
-use native.Mathlib.Omega.{arith}
-use mathlib.Core.Path.{◌≡◌, sym, ap, ◌∙◌}
-use lib.IntN.{ℤ, pos, ◌-ℤ◌}
-use mir.Syntax.{w64}
-use mir.Val.{SFits, to_z, of_z}
-use mir.Facts.{to_z-of_z}
-use Rattle.whole.specs.AsNaturals.{as_ℕ}
-use Rattle.whole.specs.Fits.{fits_abs}
+-- `columns::greatest` meets its contract: the greater of 0 and g, or the size of g.
+use Rattle.std.proofs.Common.{sym, ap, ◌∙◌, nat_abs, pos, to_z-of_z}
+use Rattle.std.specs.Int.{int_max}
+use Rattle.whole.specs.Fits.{got64}
 use Rattle.model.specs.Operations.{greatest}
-use Rattle.verdicts.specs.Ends.{greatest_positive, greatest-even, greatest_odd}
+use Rattle.verdicts.specs.Ends.{greatest_even}
 use Rattle.verdicts.proofs.columns.greatest.Goals as goal
-use Rattle.verdicts.proofs.columns.greatest.Goals.{Start}
-
-module _ (a : Start) where
-  abbrev g : ℤ
-  g = a.args.g
-
-  is : to_z w64 (of_z w64 g) ≡ g
-  is = to_z-of_z a.ranges.g
-
-  minus_fits : SFits w64 (pos 0 -ℤ g)
-  minus_fits = fits_abs (simp as_ℕ (omega (arith, simp as_ℕ at a.requires)))
 
 pub returns-then-even : goal.returns-then-even
 returns-then-even c =
-    sym (ap (λ b. greatest b (g (goal.at.returns-then-even c).Start)) c.if-even.true ∙ greatest-even (g (goal.at.returns-then-even c).Start) (rw (is (goal.at.returns-then-even c).Start) at c.if-g-lt0.true))
+    got64 (c.max.ensures.value ∙ ap (λ x. int_max x (pos 0)) (to_z-of_z c.ranges.g) ∙ greatest_even c.args.g) c.max.type_inv
+    ∙ ap (λ b. greatest b c.args.g) (sym c.if-even.true)
 
-pub overflow_sub-result : goal.overflow_sub-result
-overflow_sub-result c = rw (is (goal.at.overflow_sub-result c).Start) (minus_fits (goal.at.overflow_sub-result c).Start)
-
-pub returns-then-g-lt0 : goal.returns-then-g-lt0
-returns-then-g-lt0 c =
-    rw (is (goal.at.returns-then-g-lt0 c).Start) (to_z-of_z (minus_fits (goal.at.returns-then-g-lt0 c).Start) ∙ sym (ap (λ b. greatest b (g (goal.at.returns-then-g-lt0 c).Start)) c.if-even.false
-    ∙ greatest_odd (g (goal.at.returns-then-g-lt0 c).Start) (rw (is (goal.at.returns-then-g-lt0 c).Start) at c.if-g-lt0.true)))
-
-pub returns : goal.returns
-returns c = is (goal.at.returns c).Start ∙ sym (greatest_positive _ (g (goal.at.returns c).Start) (rw (is (goal.at.returns c).Start) at c.if-g-lt0.false))
+pub returns-else-even : goal.returns-else-even
+unfolding greatest
+returns-else-even c =
+    got64 (c.abs.ensures.value ∙ ap (λ x. pos (nat_abs x)) (to_z-of_z c.ranges.g)) c.abs.type_inv
+    ∙ ap (λ b. greatest b c.args.g) (sym c.if-even.false)

@@ -1,8 +1,5 @@
--- `columns::reach` meets its contract: the places passed hold their ends.
-use mathlib.Core.Path.{◌≡◌}
-use Prim.Native.Nat.{◌+◌, ◌-◌, ◌≤◌}
-use lib.ListN.{get_or}
-use lib.IntN.{◌+ℤ◌}
+-- `columns::reach` meets its contract: the coordinates passed have their ends.
+use Rattle.std.specs.Prelude.{◌≡◌, true, false, ◌+◌, ◌+ℤ◌, get_or}
 use Rattle.model.specs.Set.{at}
 use Rattle.verdicts.specs.Six.{six}
 use Rattle.verdicts.specs.Ends.{reached}
@@ -10,7 +7,5 @@ use Rattle.verdicts.proofs.columns.reach.Given as goal
 
 abbrev pub invariant-loop-i : goal.invariant-loop-i
 invariant-loop-i l =
-    (l.i ≤ l.n) × (l.out ≡ six l.i (λ k. reached l.up (at l.centre k +ℤ at l.terms k) (get_or l.sizes k 0 + get_or l.radii k 0)))
-
-abbrev pub decreases-loop-i : goal.decreases-loop-i
-decreases-loop-i l = l.n - l.i
+    (l.ends.low ≡ six l.i (λ k. reached false (at l.s.centre k +ℤ at l.terms.low k) (get_or l.sizes k 0 + get_or l.radii k 0)))
+    × (l.ends.high ≡ six l.i (λ k. reached true (at l.s.centre k +ℤ at l.terms.high k) (get_or l.sizes k 0 + get_or l.radii k 0)))

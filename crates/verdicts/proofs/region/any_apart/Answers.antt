@@ -1,6 +1,6 @@
 -- `region::any_apart` meets its contract: the set is apart from no halfspace passed.
 use native.Mathlib.Omega.{arith}
-use mathlib.Core.Path.{◌≡◌, refl, sym, ap₂, ◌∙◌}
+use mathlib.Core.Path.{◌≡◌, refl, sym, ap, ap₂, ◌∙◌}
 use mathlib.Core.Bool.{Bool}
 use mathlib.Core.List.{List}
 use Prim.Native.Nat.{ℕ, ◌+◌, ◌*◌, ◌≤◌}
@@ -31,15 +31,13 @@ module _ (s : In-loop-k) where
   abbrev normal : List ℤ
   normal = tab s.args.n (λ j. at s.args.normals.now (k * s.args.n + j))
 
-answer : (s : After-is_apart) {b : Bool} → s.is_apart.result ≡ b → (lt_z (at s.args.bounds.now (k (goal.at.After-is_apart s).In-loop-k)) (low_along (normal (goal.at.After-is_apart s).In-loop-k) (view s.args.s)) ≡ b)
+answer : (s : After-is_apart) {b : Bool} → s.is_apart.result ≡ b → (lt_z (at s.args.bounds.now (k (goal.at.After-is_apart s).In-loop-k)) (low_along (normal (goal.at.After-is_apart s).In-loop-k) (view s.args.s.now)) ≡ b)
 answer s t =
-    let x = s.args.s in
+    let x = s.args.s.now in
     let bound = at s.args.bounds.now (k (goal.at.After-is_apart s).In-loop-k) in
     let radii = s.totals-radii in
-    let low : List ℤ → ℕ → ℤ = λ v n.
-    low_by v x.centre x.exponents x.coefficients x.vectors radii.result n x.factors x.terms x.generators in
     sym (s.is_apart.ensures ∙ ap₂ lt_z (read64 bound s.is_apart-arg-in-loop-k-1.given)
-    (ap₂ low (part-tab s.args.normals.now (k (goal.at.After-is_apart s).In-loop-k * s.args.n) s.args.n (within (goal.at.After-is_apart s).In-loop-k)) (sym s.requires.1)
+    (ap (λ v. low_by v x radii.result) (part-tab s.args.normals.now (k (goal.at.After-is_apart s).In-loop-k * s.args.n) s.args.n (within (goal.at.After-is_apart s).In-loop-k))
     ∙ sym (view-low x (normal (goal.at.After-is_apart s).In-loop-k) s.requires.0.dimension radii.ensures.0))) ∙ t
 
 pub loop-k-init : goal.loop-k-init
@@ -73,10 +71,7 @@ is_apart-requires c =
     rw (part-tab c.args.normals.now (k (goal.at.is_apart-requires c).In-loop-k * c.args.n) c.args.n (within (goal.at.is_apart-requires c).In-loop-k)) (
       part-entries _ _ _ c.requires.2,
       omega (arith, length-tab c.args.n (λ j. at c.args.normals.now (k (goal.at.is_apart-requires c).In-loop-k * c.args.n + j))),
-      omega (arith, limits.dimension),
-      limits.factors,
-      limits.terms,
-      limits.generators,
+      limits,
       c.totals-radii.ensures.1,
     )
 

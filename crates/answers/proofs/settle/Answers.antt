@@ -1,8 +1,0 @@
--- `settle` meets its contract.
-use Rattle.answers.proofs.settle.Goals as goal
-
-pub returns-then-f : goal.returns-then-f
-returns-then-f c = rw c.if-f.true
-
-pub returns : goal.returns
-returns c = rw c.if-f.false

@@ -1,0 +1,2 @@
+-- Proofs of the contracts.
+pub mod Digits
