@@ -1,11 +1,11 @@
 -- A field by its tag, and the first field of what is left of the input.
-use Rattle.std.specs.Prelude.{◌≡◌, List, Bool, cond, ◌&&◌, ℕ, zero, suc, ◌-◌, ◌<◌, ◌≤◌, ltb, eqb, length, take, drop, Result, IfOk}
+use Rattle.std.specs.Prelude.{◌≡◌, List, Bool, cond, ◌&&◌, ℕ, zero, suc, ◌+◌, ◌-◌, ◌<◌, ◌≤◌, ltb, eqb, length, take, drop, Result, IfOk}
 use Rattle.std.proofs.Math.Path.{refl, ap}
 use Rattle.std.proofs.Common.{sym, ◌∙◌, subst, arith, ltb-false, eqb-true}
 use Rattle.std.proofs.Math.Option.{Option, none, some}
 use Rattle.std.proofs.Math.Bool.{true, false}
 use Rattle.std.proofs.lemmas.Bool.{not-false, eqb-false}
-use Rattle.model.specs.Limits.{last_field}
+use Rattle.model.specs.Limits.{last_field, last_tag}
 use Rattle.model.specs.Bytes.{byte}
 use Rattle.model.specs.Field.{refused, skipped, describe}
 use Rattle.model.specs.Run.{tag, body, kind_of, refusal, meant, accepted_by, refused_at, after, outcome, causes, of_body, first_of}
@@ -58,6 +58,16 @@ used-by b st e h = used_as (ap (λ (k : Kind). field_works (means k) b st) e) h
 -- what a later field finds: a set, and a next identifier that leaves room for twelve
 pub later : {st : State} {k : Kind} → Ready st k → starts (means k) ≡ false → AcceptedRecord st.set × Next st.next
 later {st} r h = (r.running.set (r.there h), record { few = not_last st r.running })
+
+-- of the tags that have a kind the hull's is the one that is no other
+above : {t : ℕ} (n : ℕ) → n ≤ t → (t ≡ n → ⊥) → n + 1 ≤ t
+above n h e = omega arith
+
+pub last_is : (t : ℕ) → (1 ≤ t) × (t ≤ last_tag) → (t ≡ 1 → ⊥) → (t ≡ 2 → ⊥) → (t ≡ 3 → ⊥) → (t ≡ 4 → ⊥) → (t ≡ 5 → ⊥) → (t ≡ 6 → ⊥)
+    → (t ≡ 7 → ⊥) → (t ≡ 9 → ⊥) → t ≡ 8
+last_is t k one two three four five six seven nine =
+    let low = above 7 (above 6 (above 5 (above 4 (above 3 (above 2 (above 1 k.0 one) two) three) four) five) six) seven in
+    omega (arith, low, k.1, nine)
 
 -- a tag that may stand here
 tag_known : (count t : ℕ) → misplaced_tag count t ≡ false → (t ≡ 1 → ⊥) → 0 < count

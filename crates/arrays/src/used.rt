@@ -2,7 +2,7 @@
 ghost use Rattle.std.specs.Prelude.{◌≡◌, Bool, List, ◌+◌, ◌-◌, ◌*◌, ◌≤◌, ◌<◌, ltb, pos, length, get_or};
 ghost use Rattle.std.specs.Fn.{FnReturnsAt};
 ghost use Rattle.whole.specs.Tab.{tab, any};
-ghost use Rattle.model.specs.Valid.{order, is_less, rises, zeros, factorless};
+ghost use Rattle.model.specs.Valid.{order, is_less, rises, is_zero, zeros, factorless};
 ghost use Rattle.arrays.specs.Rows.{row, identifier_out, exponent_out};
 ghost use Rattle.whole.specs.Tests.{some_below, each_below};
 
@@ -15,6 +15,13 @@ fn any_row<T, F: Fn(&[T]) -> bool>(xs: &[T], w: usize, rows: usize, n: usize, te
         → result ≡ some_below rows (λ t. p (row w d xs.now t n)) }
 {
     (0..rows).any(|t| test(&xs[t * w..t * w + n]))
+}
+
+// Whether the number is 0.
+pub fn is_zero(v: i32) -> bool
+    ensures { result ≡ is_zero v }
+{
+    v == 0
 }
 
 // ---- ranges
@@ -33,7 +40,15 @@ pub fn identifiers_out(ids: &[u32; 12], p: usize) -> bool
     ids[..p].iter().any(|k| identifier_out(*k))
 }
 
-// Whether one of the first p exponents of one of the first h rows is too large.
+// Whether one of the first p exponents of row t is too large.
+pub fn row_out(e: &[u8; 480], t: usize, p: usize) -> bool
+    requires { (t < 40) × (p ≤ 12) }
+    ensures { result ≡ any exponent_out (row 12 0 e.now t p) }
+{
+    has_large(&e[t * 12..t * 12 + p])
+}
+
+// The same of one of the first h rows.
 pub fn exponents_out(e: &[u8; 480], h: usize, p: usize) -> bool
     requires { (h ≤ 40) × (p ≤ 12) }
     ensures { result ≡ some_below h (λ t. any exponent_out (row 12 0 e.now t p)) }
@@ -49,19 +64,35 @@ fn has_large(row: &[u8]) -> bool
 }
 
 // ---- zeros
+// Whether the first n numbers of row t are all 0.
+pub fn zero_row(xs: &[i32], t: usize, n: usize) -> bool
+    requires { (t < 40) × (t * 6 + 6 ≤ length xs.now) × (n ≤ 6) }
+    ensures { result ≡ zeros (row 6 (pos 0) xs.now t n) }
+{
+    all_zero(&xs[t * 6..t * 6 + n])
+}
+
 // Whether one of the first h rows of numbers is zero.
 pub fn zero_rows(xs: &[i32], h: usize, n: usize) -> bool
     requires { (h ≤ 40) × (h * 6 ≤ length xs.now) × (n ≤ 6) }
     ensures { result ≡ some_below h (λ t. zeros (row 6 (pos 0) xs.now t n)) }
 {
-    any_row(xs, 6, h, n, is_zero)
+    any_row(xs, 6, h, n, all_zero)
 }
 
 // Whether all numbers of a row are 0.
-fn is_zero(row: &[i32]) -> bool
+fn all_zero(row: &[i32]) -> bool
     ensures { result ≡ zeros row.now }
 {
     row.iter().all(|x| *x == 0)
+}
+
+// Whether the first p exponents of row t are all 0.
+pub fn constant_row(e: &[u8; 480], t: usize, p: usize) -> bool
+    requires { (t < 40) × (p ≤ 12) }
+    ensures { result ≡ factorless (row 12 0 e.now t p) }
+{
+    is_constant(&e[t * 12..t * 12 + p])
 }
 
 // Whether one of the first h rows of exponents is constant.
@@ -80,7 +111,7 @@ fn is_constant(row: &[u8]) -> bool
 }
 
 // Whether factor j occurs in one of the first h rows.
-fn factor_occurs(e: &[u8; 480], h: usize, j: usize) -> bool
+pub fn factor_occurs(e: &[u8; 480], h: usize, j: usize) -> bool
     requires { (h ≤ 40) × (j < 12) }
     ensures { result ≡ some_below h (λ t. ltb 0 (get_or e.now (t * 12 + j) 0)) }
 {
@@ -104,14 +135,14 @@ pub fn identifiers_rise(ids: &[u32; 12], p: usize) -> bool
     ids[..p].is_sorted_by(|a, b| a < b)
 }
 
-// Whether row t comes after the one before it, by the first of p exponents in which they differ.
-fn row_rises(e: &[u8; 480], t: usize, p: usize) -> bool
-    requires { (0 < t) × (t < 40) × (p ≤ 12) }
-    ensures { result ≡ is_less (order (row 12 0 e.now (t - 1) p) (row 12 0 e.now t p)) }
+// Whether row t comes before the next one, by the first of p exponents in which they differ.
+pub fn row_rises(e: &[u8; 480], t: usize, p: usize) -> bool
+    requires { (t + 1 < 40) × (p ≤ 12) }
+    ensures { result ≡ is_less (order (row 12 0 e.now t p) (row 12 0 e.now (t + 1) p)) }
 {
-    let before = (t - 1) * 12;
     let at = t * 12;
-    e[before..before + p] < e[at..at + p]
+    let next = (t + 1) * 12;
+    e[at..at + p] < e[next..next + p]
 }
 
 // Whether each of the first h rows comes before the next.
@@ -119,5 +150,5 @@ pub fn rows_rise(e: &[u8; 480], h: usize, p: usize) -> bool
     requires { (h ≤ 40) × (p ≤ 12) }
     ensures { result ≡ rises (λ u v. is_less (order u v)) (tab h (λ t. row 12 0 e.now t p)) }
 {
-    (1..h).all(|t| row_rises(e, t, p))
+    (1..h).all(|t| row_rises(e, t - 1, p))
 }

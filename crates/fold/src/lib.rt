@@ -113,7 +113,7 @@ pub fn row_size(row: &[i64], weights: &[u64; 6]) -> u64
 }
 
 // The centre after a row is folded.
-fn shifted(centre: [i64; 6], row: &[i64], even: bool) -> [i64; 6]
+pub fn shifted(centre: [i64; 6], row: &[i64], even: bool) -> [i64; 6]
     requires { (length row.now ≡ 6) × Small (2 ^ 62) centre × Small (2 ^ 50) row.now }
     ensures { result ≡ plus_ℤ centre (map (shift even) row.now) }
 {
@@ -125,7 +125,7 @@ fn shifted(centre: [i64; 6], row: &[i64], even: bool) -> [i64; 6]
 }
 
 // The radii after a row is folded.
-fn grown(radii: [u64; 6], row: &[i64], even: bool) -> [u64; 6]
+pub fn grown(radii: [u64; 6], row: &[i64], even: bool) -> [u64; 6]
     requires { (length row.now ≡ 6) × Under (2 ^ 62) radii × Small (2 ^ 50) row.now }
     ensures { result ≡ plus_ℕ radii (map (growth even) row.now) }
 {

@@ -15,8 +15,12 @@ use std::fmt;
 pub struct NoRoom;
 
 impl fmt::Display for NoRoom {
+    ghost use Rattle.std.specs.Prelude.{Some, codes};
+
+    ghost output = { λ _. Some (codes "no room for the line") };
+
     fn fmt<W: fmt::Write>(&self, f: &mut fmt::Formatter<W>) -> fmt::Result {
-        write!(f, "no room for the line")
+        f.write_str("no room for the line")
     }
 }
 

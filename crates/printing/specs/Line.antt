@@ -11,7 +11,8 @@ use Rattle.model.specs.Text.{box_line, verdict_line, refusal_line, outcome_line,
 use Rattle.text.specs.Appended.{Appended, none_put, named}
 use Rattle.text.specs.Pieces.{firsts}
 use Rattle.text.specs.Lines.{longest_line}
-use Rattle.zonotope.specs.Answer.{number_of, cause_of}
+use Rattle.zonotope.specs.Answer.{number_of}
+pub use Rattle.zonotope.specs.Answer.{Numbered}
 use Rattle.states.specs.Answer.{outcome_of, box_of, parts, answer_of}
 use Rattle.states.specs.declared.Outcome.{Outcome}
 use Rattle.states.specs.declared.Outcome.TheVariants.{Inside, Safe, Unknown, Refused, Skipped, Unfit}
@@ -31,9 +32,6 @@ abbrev pub answer_line : ℕ → Answer → List ℕ
 answer_line tag a = case_line tag a a.outcome
 
 -- a refusal's number is that of a cause
-abbrev pub Numbered : ℕ → Type 0
-Numbered n = number_of (cause_of n) ≡ n
-
 abbrev pub HasCause : Outcomes.Outcome → Type 0
 HasCause (inside b) = ⊤
 HasCause (verdict b) = ⊤

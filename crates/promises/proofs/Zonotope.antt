@@ -7,6 +7,8 @@ use Rattle.model.proofs.Shape.{Shaped}
 use Rattle.zonotope.specs.declared.PolyZonotope.{PolyZonotope}
 use Rattle.zonotope.specs.Record.{spare, pack, view}
 use Rattle.zonotope.specs.Shape.{Sized}
+use Rattle.zonotope.specs.CallNumbers.{CallNumbers}
+use Rattle.zonotope.proofs.CallNumbers as CallNumbering
 use Rattle.zonotope.proofs.PackView as PackView
 use Rattle.zonotope.proofs.ViewPack as ViewPack
 
@@ -17,3 +19,7 @@ pack-view = PackView.pack-view
 -- A shaped set whose counts are in range is the meaning of its record.
 pub view-pack : (m : Zonotope) → Shaped m → bad_counts m ≡ false → view (pack m) ≡ m
 view-pack = ViewPack.view-pack
+
+-- Each number with which a call on records refuses is that of its cause, so that `cause.number()` is the number of the call's list.
+pub call_numbers : CallNumbers
+call_numbers = CallNumbering.call_numbers

@@ -1,2 +1,3 @@
+pub mod CallNumbers
 pub mod PackView
 pub mod ViewPack

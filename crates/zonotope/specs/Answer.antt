@@ -2,7 +2,7 @@
 use Rattle.std.specs.Prelude.{◌≡◌, refl, List, [], ◌∷◌, ◌++◌, Bool, true, false, cond, ℕ, ◌-◌, get_or, Result, Ok, Err, ⊤}
 use Rattle.std.proofs.Math.Option.{Option, none, some}
 use Rattle.std.specs.Result.{IsErrAnd}
-use Rattle.std.proofs.Common.{sym}
+use Rattle.std.proofs.Common.{sym, ap, ◌∙◌}
 use Rattle.std.proofs.lemmas.Result.{err_from_is_err_and}
 use Rattle.model.specs.Run.{Cause as Asked, first_of}
 use Rattle.zonotope.specs.declared.Cause.{Cause}
@@ -65,6 +65,10 @@ numbered TooManyFields = refl
 numbered WorkTooShort = refl
 numbered EmptyDisturbance = refl
 
+-- a number that is that of its cause, as those from 1 to 14 are
+abbrev pub Numbered : ℕ → Type 0
+Numbered n = number_of (cause_of n) ≡ n
+
 -- ---- what examining says: that nothing refuses, or the cause of a number
 abbrev pub Examined : Type 0
 Examined = Result ⊤ Cause
@@ -92,6 +96,13 @@ accepted (some n) e = refused n e
 pub refused-with : (o : Option ℕ) {c : Cause} → examined o ≡ Err c → (n : ℕ) × (o ≡ some n) × (c ≡ cause_of n)
 refused-with none e = absurd cc
 refused-with (some n) e = (n, refl, cc)
+
+-- the number of the cause, where the one that is found is that of its cause
+pub refused-number : (o : Option ℕ) {c : Cause} → ((n : ℕ) → o ≡ some n → Numbered n) → examined o ≡ Err c → o ≡ some (number_of c)
+refused-number none k e = absurd cc
+refused-number (some n) {c} k e =
+    let s : c ≡ cause_of n = cc in
+    ap some (sym (ap number_of s ∙ k n refl))
 
 -- where a test by o found nothing, no cause of o holds; where it found one, that is passed on
 pub nothing_found : (o : Option ℕ) {u : ⊤} → Ok u ≡ examined o → o ≡ none

@@ -6,6 +6,7 @@
 --     View     what a record means, by the places of its arrays
 --     Valid    a set that no cause refuses
 --     Answer   document 01's number for each case of an answer
+--     CallNumbers   the numbers with which calls refuse
 pub mod Record
 pub mod Causes
 pub mod Counts
@@ -13,3 +14,4 @@ pub mod Shape
 pub mod View
 pub mod Valid
 pub mod Answer
+pub mod CallNumbers

@@ -150,7 +150,7 @@ pub fn examine(s: PolyZonotope) -> Result<(), Cause>
 }
 
 // 8: whether the span of a coordinate exceeds the limit.
-pub fn too_wide(s: &PolyZonotope) -> bool
+fn too_wide(s: &PolyZonotope) -> bool
     requires { InLimits s.now }
     ensures { result ≡ is_too_wide (view s.now) }
 {

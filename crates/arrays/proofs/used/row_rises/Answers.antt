@@ -9,10 +9,10 @@ pub returns : goal.returns
 returns c =
     let e = c.args.e.now in
     let p = c.args.p in
-    let before = (c.args.t - 1) * 12 in
     let at = c.args.t * 12 in
-    let m : before + p - before ≡ p = omega arith in
-    let n : at + p - at ≡ p = omega arith in
+    let next = (c.args.t + 1) * 12 in
+    let m : at + p - at ≡ p = omega arith in
+    let n : next + p - next ≡ p = omega arith in
     row_less _ _ _ c.lt.ensures
-    ∙ ap₂ (λ u v. is_less (order u v)) (ap (λ n. take n (drop before e)) m ∙ part-tab 0 e before p (omega arith))
-    (ap (λ n. take n (drop at e)) n ∙ part-tab 0 e at p (omega arith))
+    ∙ ap₂ (λ u v. is_less (order u v)) (ap (λ n. take n (drop at e)) m ∙ part-tab 0 e at p (omega arith))
+    (ap (λ n. take n (drop next e)) n ∙ part-tab 0 e next p (omega arith))

@@ -1,10 +1,10 @@
--- `used::is_zero` meets its contract: all numbers are 0 where the library finds none else.
+-- `used::all_zero` meets its contract: all numbers are 0 where the library finds none else.
 use Rattle.std.proofs.Common.{◌∙◌, rules, tests}
 use Rattle.std.proofs.lemmas.Iterator.{YieldsList-from_slice}
 use Rattle.std.proofs.lemmas.Iterator.Search.{all_from_yields_List}
 use Rattle.model.specs.Valid.{is_zero}
 use Rattle.whole.specs.Chains.{all_listed}
-use Rattle.arrays.proofs.used.is_zero.Goals as goal
+use Rattle.arrays.proofs.used.all_zero.Goals as goal
 
 pub returns : goal.returns
 returns c =
