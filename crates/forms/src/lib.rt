@@ -36,7 +36,20 @@ pub fn wide_quadratic(q: &[i32], n: usize) -> [i32; 216]
     requires { n ≤ 6 }
     ensures { result ≡ wide_quadratic n q.now }
 {
-    array::from_fn(|x| form_entry_at(q, n, x / 36, x / 6 % 6, x % 6))
+    let mut out = [0; 216];
+    for x in 0..36 {
+        let row = form_row(q, n, x / 6, x % 6);
+        out[x * 6..x * 6 + 6].copy_from_slice(&row);
+    }
+    out
+}
+
+// Row j of form i.
+fn form_row(q: &[i32], n: usize, i: usize, j: usize) -> [i32; 6]
+    requires { (n ≤ 6) × (i < 6) × (j < 6) }
+    ensures { result ≡ tab 6 (form_entry q.now n i j) }
+{
+    array::from_fn(|l| form_entry_at(q, n, i, j, l))
 }
 
 // The number at place i, 0 past the end.
@@ -94,7 +107,20 @@ pub fn dot_rows_to(u: &[i32], s: usize, v: &[i64], t: usize, n: usize) -> i64
 pub fn both_ways(q: &[i32; 216]) -> [i64; 216]
     ensures { result ≡ both_table q.now }
 {
-    array::from_fn(|x| both_at(q, x / 36, x / 6 % 6, x % 6))
+    let mut out = [0; 216];
+    for x in 0..36 {
+        let row = both_row(q, x / 6, x % 6);
+        out[x * 6..x * 6 + 6].copy_from_slice(&row);
+    }
+    out
+}
+
+// Row j of Q + Qᵀ, with form i of Q.
+fn both_row(q: &[i32; 216], i: usize, j: usize) -> [i64; 6]
+    requires { (i < 6) × (j < 6) }
+    ensures { result ≡ tab 6 (λ l. form_of q.now i j l +ℤ form_of q.now i l j) }
+{
+    array::from_fn(|l| both_at(q, i, j, l))
 }
 
 // Q_jl + Q_lj of form i.

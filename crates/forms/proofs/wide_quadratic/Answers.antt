@@ -1,10 +1,28 @@
--- `forms::wide_quadratic` meets its contract: each place is made in turn.
-use Rattle.std.proofs.Common.{rules}
-use lib.IntN.{pos}
-use Rattle.forms.specs.Made.{made}
+-- `forms::wide_quadratic` meets its contract: each row is written in turn.
+use Rattle.std.proofs.Common.{arith, rules, ◌∙◌, ℕ, ℤ, List, pos, ◌+◌, ◌*◌, ◌/◌, ◌%◌}
+use Rattle.forms.specs.Wide.{form_entry}
+use Rattle.forms.specs.Tables.{form-place}
+use Rattle.forms.specs.Filling.{writing_begins, first_on, writing_ends, copied}
 use Rattle.forms.specs.Wide.{wide_quadratic}
+use Rattle.whole.specs.Write.{write-all}
 use Rattle.forms.proofs.wide_quadratic.Goals as goal
+
+abbrev F : ℕ → List ℤ → ℕ → ℤ
+F n q = λ (y : ℕ). form_entry q n (y / 36) (y / 6 % 6) (y % 6)
+
+pub loop-x-init : goal.loop-x-init
+loop-x-init c = writing_begins _ 0 (F c.args.n c.args.q.now) 216
+
+pub loop-x-preserved : goal.loop-x-preserved
+loop-x-preserved c =
+    let x = c.loop-x.x in
+    let i = c.loop-x.invariant in
+    first_on _ (F c.args.n c.args.q.now) 216 (x * 6) 6 ((x + 1) * 6) c.loop-x.out _ _ i (omega arith) (omega arith)
+    (copied c.loop-x.out (x * 6) _ 6 _ (pos 0) _ (omega arith) (omega (arith, i.long)) (c.copy_from_slice.ensures.after ∙ c.form_row-row.ensures))
+    (form-place (form_entry c.args.q.now c.args.n) x)
 
 pub returns : goal.returns
 unfolding wide_quadratic
-returns c = made _ _ (pos 0) (λ i x q l k. search rules) c.from_fn.ensures.items
+returns c =
+    writing_ends _ 0 (F c.args.n c.args.q.now) 216 (c.loop-x.x * 6) c.loop-x.out c.loop-x.invariant (omega arith)
+    ∙ write-all _ (F c.args.n c.args.q.now) (pos 0) 216 (search rules)
